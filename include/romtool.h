@@ -40,8 +40,8 @@
 #include <stdint.h>
 
 /* The version of the library and of this header: as a number that grows with each version, and as text. */
-#define ROMTOOL_VERSION 10000 /* 10000 * major + 100 * minor + patch */
-#define ROMTOOL_VERSION_TEXT "1.0.0"
+#define ROMTOOL_VERSION 20000 /* 10000 * major + 100 * minor + patch */
+#define ROMTOOL_VERSION_TEXT "2.0.0"
 
 /* Whether pointers have 32 bits. Seven functions then return their results through a pointer, behind wrappers. */
 #if UINTPTR_MAX <= 0xffffffffu

@@ -17,7 +17,7 @@ WORDS = f"{TOP}/crates/command_line/src/numbers.rt"
 # what a word of each name that help shows is completed with: files, directories, nothing, or the words of a function of numbers.rt
 KINDS = {
     "IMAGE": "files", "MANIFEST": "files", "OUT": "files", "DUMP": "files", "FILE": "files", "A": "files", "B": "files",
-    "DIR": "folders", "PATH": "nothing", "HEX": "nothing", "ADDRESS": "nothing", "N": "nothing", "NAME": "nothing",
+    "DIR": "directories", "PATH": "nothing", "HEX": "nothing", "ADDRESS": "nothing", "N": "nothing", "NAME": "nothing",
     "GLOB": "nothing", "UID:GID": "nothing", "FORMAT": "format_named", "[GLOB=]N": "align_named",
 }  # fmt: skip
 
@@ -79,11 +79,11 @@ def words_of(function):
 
 
 def kind_of(value):
-    """Returns `files`, `folders`, `nothing`, or the list of the words that a word of this name can be."""
+    """Returns `files`, `directories`, `nothing`, or the list of the words that a word of this name can be."""
     if value not in KINDS:
         sys.exit(f"tools/completions.py: help shows <{value}>, and KINDS does not say what completes it")
     kind = KINDS[value]
-    return kind if kind in ("files", "folders", "nothing") else words_of(kind)
+    return kind if kind in ("files", "directories", "nothing") else words_of(kind)
 
 
 BASH = """# Completion of romtool for bash, made by tools/completions.py.
@@ -129,7 +129,7 @@ def in_bash(kind):
     """Returns the command by which bash completes a word of this kind."""
     if kind == "nothing":
         return ":"
-    if kind in ("files", "folders"):
+    if kind in ("files", "directories"):
         letter = "f" if kind == "files" else "d"
         return f'compopt -o filenames 2>/dev/null; mapfile -t COMPREPLY < <(compgen -{letter} -- "$current")'
     return f"""mapfile -t COMPREPLY < <(compgen -W '{" ".join(kind)}' -- "$current")"""
@@ -186,7 +186,7 @@ def quoted(text):
 
 def in_zsh(kind):
     """Returns the action by which zsh completes a word of this kind."""
-    named = {"files": "_files", "folders": "_files -/", "nothing": " "}
+    named = {"files": "_files", "directories": "_files -/", "nothing": " "}
     return named[kind] if isinstance(kind, str) else f"({' '.join(kind)})"
 
 
@@ -241,7 +241,7 @@ complete -c romtool -f
 
 def in_fish(kind):
     """Returns the words by which fish completes a word of this kind."""
-    named = {"files": "-F", "folders": "-a '(__fish_complete_directories)'", "nothing": ""}
+    named = {"files": "-F", "directories": "-a '(__fish_complete_directories)'", "nothing": ""}
     return named[kind] if isinstance(kind, str) else f"-a {quoted(' '.join(kind))}"
 
 

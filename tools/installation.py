@@ -81,7 +81,7 @@ def version():
     return re.search(r'^pub const VERSION: &str = "(\d+\.\d+\.\d+)";$', source, re.M)[1]
 
 
-def kit_folder():
+def kit_directory():
     """Returns the directory of the toolchain's kit."""
     return os.path.dirname(os.path.dirname(kit.program()))
 
@@ -101,7 +101,7 @@ def kit_libraries():
 
 def libraries_below(name):
     """Returns the names of the libraries that a library of the kit has in it."""
-    written = content(f"{kit_folder()}/rlibs/{name}.rlib/format").decode(errors="replace")
+    written = content(f"{kit_directory()}/rlibs/{name}.rlib/format").decode(errors="replace")
     return re.findall(r"^dep (\w+)$", written, re.M)
 
 
@@ -110,10 +110,10 @@ def licences():
     parts = ["romtool\n\n" + content("LICENSE").decode()]
     without = []
     for name in kit_libraries():
-        folder = f"{kit_folder()}/rattle/{name}"
-        given = sorted(it for it in os.listdir(folder) if it.startswith("LICENSE"))
+        directory = f"{kit_directory()}/rattle/{name}"
+        given = sorted(it for it in os.listdir(directory) if it.startswith("LICENSE"))
         given = [it for it in given if it != "LICENSE-APACHE" or "LICENSE-MIT" not in given]
-        parts += [f"{name} ({it} of the kit's library)\n\n{content(f'{folder}/{it}').decode()}" for it in given]
+        parts += [f"{name} ({it} of the kit's library)\n\n{content(f'{directory}/{it}').decode()}" for it in given]
         without += [name] * (not given)
     parts.append(f"The kit has no text of a licence beside these libraries of its own: {', '.join(without)}.\n")
     return ("\n" + "=" * 78 + "\n\n").join(parts).encode()

@@ -1,7 +1,7 @@
-"""What the tools take from the toolchain: its `rt` as a module, and the kit that they were made for.
+"""What the tools use of the toolchain: its `rt` as a module, and the kit that they were made for.
 
-The tools stand in for parts of `rt` by the names of its functions, so they go with one kit. Under another
-one they say so, and hand their work to the toolchain's own `rt`.
+The tools replace parts of `rt` by the names of its functions, so they work with one kit only. With another kit
+they report this, and run the toolchain's own `rt` instead.
 """
 
 import importlib.machinery
@@ -17,7 +17,7 @@ sys.dont_write_bytecode = True
 
 
 def program():
-    """The path of the toolchain's `rt`."""
+    """Returns the path of the toolchain's `rt`."""
     found = shutil.which("rt")
     if not found:
         sys.exit(f"{os.path.basename(sys.argv[0])}: the toolchain's rt is not on the path")
@@ -25,7 +25,7 @@ def program():
 
 
 def loaded():
-    """The toolchain's `rt` as a module, which has its library as `rtlib`."""
+    """Returns the toolchain's `rt` as a module, which has its library as `rtlib`."""
     loader = importlib.machinery.SourceFileLoader("rt_script", program())
     made = importlib.util.module_from_spec(importlib.util.spec_from_loader("rt_script", loader))
     loader.exec_module(made)
@@ -33,7 +33,7 @@ def loaded():
 
 
 def is_known(rt, instead):
-    """Whether the toolchain is the kit that the tools were made for. Of another one it tells what is done instead."""
+    """Returns whether the toolchain is the kit that the tools were made for. If not, it reports what is done instead."""
     with open(f"{rt.KIT}/KIT-ID", encoding="utf-8") as it:
         here = it.read().strip()
     if here != MADE_FOR:
@@ -43,5 +43,5 @@ def is_known(rt, instead):
 
 
 def hand_over(words):
-    """Goes on as the toolchain's own `rt` with these words."""
+    """Continues as the toolchain's own `rt` with these words."""
     os.execv(program(), [program(), *words])

@@ -7,8 +7,8 @@
 //! Proved: an image is returned only if its bytes hold a tree of files of one of the two formats,
 //! and have no fault. A fault is returned only if they hold no tree of either, and it is the least
 //! one. Each call on the image answers from that tree. A check of the bytes up to the length of
-//! `reach_of` answers the same as one of the whole file. A refusal of the first 512 bytes is that of
-//! the whole file.
+//! `reach_of` answers the same as one of the whole file. A refusal of the first 512 bytes is that
+//! of the whole file.
 #![tactic(auto)]
 
 mod any;

@@ -218,7 +218,8 @@ fn put_places<'a, T: TreeImage<'a>, W: ByteWrite>(
         (if places then start_line path.now (start_of p) (start_of q) else []) }
     ensures printed { (p q : Node) → image_node (T.image old.now) nodes.0.0 ≡ Some p
         → image_node (T.image new.now) nodes.1.0 ≡ Some q
-        → result ≡ is_printed (if places then start_line path.now (start_of p) (start_of q) else []) }
+        → result ≡ is_printed
+        (if places then start_line path.now (start_of p) (start_of q) else []) }
 {
     if !places {
         return false;

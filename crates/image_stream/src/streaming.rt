@@ -87,7 +87,8 @@ pub fn stream_through<L: Segmented, S: Sources, W: ByteWrite, C: Checksum>(
     ensures some { OnOk result (IsStreamed (S.known sources.old) (S.IsLog sources.old)
         (S.IsLog sources.new) (L.form layout.now) C.stored
         (W.output w.old).contents (W.output w.new).contents) }
-    ensures sized { OnOk result (IfKnown (S.known sources.old) (AreSized (L.form layout.now).sizes)) }
+    ensures sized { OnOk result (IfKnown (S.known sources.old)
+        (AreSized (L.form layout.now).sizes)) }
     ensures whole { OnOk result (IfKnown (S.known sources.old) (λ cs. Appends
         (W.output w.old).contents (W.output w.new).contents
         (image_of (L.form layout.now) C.stored cs))) }
@@ -144,7 +145,8 @@ pub fn stream<L: Segmented, S: Sources, W: ByteWrite, C: Checksum>(
     ensures some { OnOk result (IsStreamed (S.known sources.old) (S.IsLog sources.old)
         (S.IsLog sources.new) (L.form layout.now) C.stored
         (W.output w.old).contents (W.output w.new).contents) }
-    ensures sized { OnOk result (IfKnown (S.known sources.old) (AreSized (L.form layout.now).sizes)) }
+    ensures sized { OnOk result (IfKnown (S.known sources.old)
+        (AreSized (L.form layout.now).sizes)) }
     ensures whole { OnOk result (IfKnown (S.known sources.old) (λ cs. Appends
         (W.output w.old).contents (W.output w.new).contents
         (image_of (L.form layout.now) C.stored cs))) }

@@ -2,8 +2,8 @@
 //! those that found nothing. `Indexed` sorts the names of a directory when one of them is first
 //! looked up; a later look-up needs time as the logarithm of the list's length.
 //!
-//! Proved: both answer each call as the image in them does, whichever names or lists they keep, also
-//! after memory was refused. `specs/Remembers.antt` defines the answers that are kept, and
+//! Proved: both answer each call as the image in them does, whichever names or lists they keep,
+//! also after memory was refused. `specs/Remembers.antt` defines the answers that are kept, and
 //! `specs/Indices.antt` the index of a list and the answer of a list's front.
 #![tactic(auto)]
 

@@ -56,7 +56,8 @@ pub extern "C" fn romtool_check<'a>(
 pub extern "C" fn romtool_lookup(image: &RomtoolImage<'_>, path: &[u8], follow: bool) -> RomtoolNode
     ensures closed { image.now.status ≢ 1 → result ≡ no_node_reported 13 }
     ensures leads { image.now.status ≡ 1 → (t : Node) → HasTree image.now.bytes.now usual t
-        → result ≡ led_reported (resolution (tree_namespace image.now.bytes.now t) path.now follow) }
+        → result ≡ led_reported
+        (resolution (tree_namespace image.now.bytes.now t) path.now follow) }
 {
     one_tree();
     if image.status != OPEN {

@@ -194,6 +194,32 @@ impl Part {
 impl System<'_> {
     ghost use Rattle.atomic_file.specs.Accounts.{log_of, room_of, call_of};
 
+    /// Creates the file of a part at a path where nothing is. If a file is there again after it was
+    /// removed, another build uses the name, which is counted.
+    fn open_new(&mut self, name: u32, path: &str) -> Result<File, CreateError>
+        ensures { self.new.beside.account ≡ self.old.beside.account }
+    {
+        let mut options = OpenOptions::new();
+        let opened = options
+            .write(true)
+            .create_new(true)
+            .mode(self.beside.mode)
+            .open(self.rt, path);
+        match opened {
+            Ok(file) => Ok(file),
+            Err(e) if e.kind() == io::ErrorKind::AlreadyExists => {
+                if self.beside.cleared == Some(name) {
+                    self.beside.others.kept = self.beside.others.kept.saturating_add(1);
+                }
+                Err(CreateError::Exists)
+            }
+            Err(e) => {
+                self.beside.refuse(KeepError::Refused(e));
+                Err(CreateError::Refused)
+            }
+        }
+    }
+
     /// Opens a new file under the name of a part, if nothing has it, locks it, and gives it the
     /// owner and the permissions that it is to have.
     fn made(&mut self, name: u32) -> Result<File, CreateError>
@@ -206,25 +232,7 @@ impl System<'_> {
                 return Err(CreateError::Refused);
             }
         };
-        let mut options = OpenOptions::new();
-        let opened = options
-            .write(true)
-            .create_new(true)
-            .mode(self.beside.mode)
-            .open(self.rt, &path);
-        let file = match opened {
-            Ok(file) => file,
-            Err(e) if e.kind() == io::ErrorKind::AlreadyExists => {
-                if self.beside.cleared == Some(name) {
-                    self.beside.others.kept = self.beside.others.kept.saturating_add(1);
-                }
-                return Err(CreateError::Exists);
-            }
-            Err(e) => {
-                self.beside.refuse(KeepError::Refused(e));
-                return Err(CreateError::Refused);
-            }
-        };
+        let file = self.open_new(name, &path)?;
         let lock = match lock_part(self.rt, &path, &file) {
             Lock::Held(lock) => Some(lock),
             Lock::Refused => None,
