@@ -16,8 +16,6 @@ use Rattle.romfs_format.specs.Record.{end_of, size_of, type_of, has_data}
 use Rattle.romfs_format.specs.Refers.{references}
 use Rattle.romfs_format.specs.Tree.{row_extents, IsTree}
 use Rattle.image_info.specs.Gaps.{romfs_forest, romfs_extents}
-use Rattle.image_info.specs.Records.{romfs_record}
-use Rattle.image_info.proofs.RomfsWalk.{taken}
 use Rattle.image_info.proofs.Forests.{romfs_is}
 use Rattle.image_extents.specs.declared.extent.Record.{Record}
 use Rattle.image_extents.specs.declared.extent.Extent.{Extent}
@@ -98,6 +96,16 @@ pub span_found : (kind : Kind) (start len offset i : ℕ)
     → map span_of (found kind start len offset i) ≡ added (kind_of kind) start len
 span_found kind start zero offset i = refl
 span_found kind start (suc n) offset i = refl
+
+-- those of the record at an offset, and of the records of a forest
+abbrev romfs_record : List ℕ → ℕ → List Span
+romfs_record b p =
+    added span.Record p (end_of b p - p)
+    ++ (if has_data (type_of b p) then added span.Data (end_of b p) (size_of b p) else [])
+
+abbrev taken : List ℕ → Forest → List Span
+taken b none = []
+taken b (at p own after) = romfs_record b p ++ (taken b own ++ taken b after)
 
 record_spans : (b : List ℕ) (p i : ℕ) → map span_of (romfs_found b p i) ≡ romfs_record b p
 record_spans b p i =

@@ -8,12 +8,14 @@ use Rattle.rom_tree.specs.declared.types.Limits.{Limits}
 use Rattle.record_forest.specs.Forest.{Forest, all_rows}
 use Rattle.romfs_format.specs.Refers.{references}
 use Rattle.romfs_format.specs.Superblock.{accessible}
-use Rattle.romfs_format.specs.Tree.{RomfsTree, IsSuperblock, IsTree, tree_of, root_of}
+use Rattle.romfs_format.specs.Tree.{RomfsTree, IsSuperblock, IsTree, tree_of, root_of, extents_of}
 use Rattle.romfs_format.specs.Made.{IsRomfs}
 use Rattle.romfs_format.proofs.Bridge.{accepted}
 use Rattle.romfs_format.proofs.Trees.{ino_is}
 use Rattle.romfs_image.proofs.Reading.{root_above}
 use Rattle.romfs_image.specs.declared.image.Romfs.{Romfs}
+use Rattle.romfs_image.specs.Checked.{Shows as RomfsShows}
+use Rattle.romfs_image.specs.Reported.{image_of, report_of as report_in}
 use Rattle.cramfs_format.specs.declared.order.Order.{Order}
 use Rattle.cramfs_format.specs.Refers.{references as cramfs_references}
 use Rattle.cramfs_format.specs.Superblock.{accessible as cramfs_accessible, accessible_size, has_crc, size_word}
@@ -33,6 +35,7 @@ use Rattle.image_info.specs.Gaps.{romfs_extents, romfs_gaps, cramfs_extents, cra
 use Rattle.image_info.specs.Held.{HoldsRomfs, HoldsCramfs}
 use Rattle.image_info.specs.Records.{CoverTheSame}
 use Rattle.image_info.proofs.Covered.{unused_same}
+use Rattle.image_info.proofs.Forests.{romfs_is}
 
 -- an image that a check shows is one that it returned
 shown_bytes : (all : List ℕ) (l : Limits) (a : AnyImage) → Shows all l (any_view a) (report_of a)
@@ -115,17 +118,42 @@ romfs_known all r size h small e =
       (accepted b r h.most h.deepest h.forest live h.whole s h.superblock.directory).0,
     )
 
-pub romfs_counted : (all : List ℕ) (r size result : ℕ) (given spans : List Span) → HoldsRomfs all r
-    → size ≡ word_be all 8 → given ≡ spans → spans ≡ romfs_extents (take size all) r
-    → result ≡ unused given 0 size → result ≡ romfs_gaps all
+-- a check returned it
+pub romfs_shown : (s : Romfs) → IsChecked (InRomfs s) → (l : Limits) × RomfsShows s.all.now l (image_of s) (report_in s)
+romfs_shown s c = by c.shows
+  where
+    by : Shows s.all.now c.limits (any_view (InRomfs s)) (report_of (InRomfs s))
+        → (l : Limits) × RomfsShows s.all.now l (image_of s) (report_in s)
+    by (romfs h) = (c.limits, h)
+    by (cramfs h) = absurd (apart _ s.all.now c.format h.tree.super.begins)
+
+-- the extents of the one tree that its bytes hold
+given_extents : (b : List ℕ) (r most deepest : ℕ) (f : Forest) (spans : List Span) → r ≢ 0 → IsTree b r most deepest f
+    → length (all_rows (references b r) f) ≤ 2 ^ 32 → spans ≡ extents_of b r (all_rows (references b r) f)
+    → spans ≡ romfs_extents b r
+unfolding romfs_extents
+given_extents b r most deepest f spans live t few e =
+    e ∙ ap (λ (v : Forest). extents_of b r (all_rows (references b r) v)) (sym (romfs_is b r most deepest f live t few))
+
+pub romfs_counted : (s : Romfs) (size result : ℕ) (given spans : List Span) → IsChecked (InRomfs s)
+    → size ≡ word_be s.all.now 8
+    → ((b : List ℕ) (r most deepest : ℕ) (f : Forest) → IsSuperblock s.all.now b r → IsTree b r most deepest f
+    → spans ≡ extents_of b r (all_rows (references b r) f))
+    → given ≡ spans → result ≡ unused given 0 size → result ≡ romfs_gaps s.all.now
 unfolding romfs_gaps
-romfs_counted all r size result given spans h e g f u =
+romfs_counted s size result given spans c e found g u =
+    let all : List ℕ = s.all.now in
     let b : List ℕ = accessible all in
+    let r : ℕ = ino_of (any_view (InRomfs s)).tree in
+    let h = checked_romfs s r c s.few refl in
+    let live : r ≢ 0 = (let a = root_above b r h.superblock.root in λ z. absurd (omega arith)) in
     let l : length b ≡ min (word_be all 8) (length all) = length-take (word_be all 8) all in
     let w = h.superblock.size.1 in
     let n : size ≡ length b = grind (arith, l, e, w) in
-    let x : given ≡ romfs_extents b (root_of b) =
-    g ∙ f ∙ ap (λ (v : ℕ). romfs_extents (take v all) r) e ∙ ap (romfs_extents b) h.superblock.root in
+    let x : given ≡ romfs_extents b (root_of b) = g
+    ∙ given_extents b r h.most h.deepest h.forest spans live h.whole h.few
+    (found b r h.most h.deepest h.forest h.superblock h.whole)
+    ∙ ap (romfs_extents b) h.superblock.root in
     u ∙ ap (λ (v : List Span). unused v 0 size) x ∙ ap (unused (romfs_extents b (root_of b)) 0) n
 
 -- the same of cramfs

@@ -1,5 +1,4 @@
 pub mod Left
-pub mod RomfsWalk
 pub mod Covered
 pub mod CramfsWalk
 pub mod Forests

@@ -1,25 +1,18 @@
--- `romfs_record`, `cramfs_record`: the extents of one record. `CoverTheSame`: extents that have the
--- same bytes. `AreMet`: the tables that were met. (This project's own.)
-use Rattle.std.specs.Prelude.{◌≡◌, ℕ, ◌-◌, ◌*◌, ◌++◌, ◌==◌, true, if◌then◌else◌, List, [], Some}
+-- `cramfs_record`: the extents of one record. `CoverTheSame`: extents that have the same bytes.
+-- `AreMet`: the tables that were met. (This project's own.)
+use Rattle.std.specs.Prelude.{◌≡◌, ℕ, ◌*◌, ◌++◌, ◌==◌, true, if◌then◌else◌, List, [], Some}
 use Rattle.std.specs.BTreeMap.{BTreeMap, get}
 use Rattle.std.specs.Ordering.{nat_cmp}
-use Rattle.rom_fields.specs.declared.span.Extent.TheVariants.{Record, Data, List as ListOf, Table}
+use Rattle.rom_fields.specs.declared.span.Extent.TheVariants.{List as ListOf, Table}
 use Rattle.rom_fields.specs.declared.span.Span.{Span}
 use Rattle.rom_fields.specs.Extents.{added}
-use Rattle.romfs_format.specs.Record.{end_of, size_of, type_of, has_data}
 use Rattle.cramfs_format.specs.declared.order.Order.{Order}
 use Rattle.cramfs_format.specs.Inode.{offset_of, block_count, size_of as cramfs_size_of}
 use Rattle.cramfs_format.specs.Inode.{type_of as cramfs_type_of, has_data as has_blocks}
 use Rattle.cramfs_format.specs.Tree.{data_from}
 use Rattle.image_info.specs.Unused.{is_used}
 
--- in romfs: its header with its name, and its data if it has any
-abbrev pub romfs_record : List ℕ → ℕ → List Span
-romfs_record b p =
-    added Record p (end_of b p - p)
-    ++ (if has_data (type_of b p) then added Data (end_of b p) (size_of b p) else [])
-
--- in cramfs: the list of a directory
+-- the list of a directory
 abbrev pub cramfs_list : Order → List ℕ → ℕ → List Span
 cramfs_list o b p =
     if cramfs_type_of o b p == 4 then added ListOf (offset_of o b p) (cramfs_size_of o b p) else []

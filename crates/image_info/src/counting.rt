@@ -1,10 +1,10 @@
 //! The count of the bytes that nothing uses.
 ghost use Rattle.std.specs.Prelude.{◌≡◌, ◌≤◌, length, IfOk};
-ghost use Rattle.image_info.specs.Gaps.{romfs_gaps, cramfs_gaps, gaps_of, IsChecked};
-ghost use Rattle.image_info.specs.Held.{HoldsRomfs, HoldsCramfs};
+ghost use Rattle.image_check.specs.declared.any.AnyImage.TheVariants.{Romfs as InRomfs};
+ghost use Rattle.image_info.specs.Gaps.{cramfs_gaps, gaps_of, IsChecked};
+ghost use Rattle.image_info.specs.Held.{HoldsCramfs};
 
 use crate::cramfs_records::cramfs_spans;
-use crate::romfs_records::romfs_spans;
 use crate::spans::unused_bytes;
 use cramfs_format::Order;
 use cramfs_format::superblock::accessible_size;
@@ -12,15 +12,16 @@ use image_check::AnyImage;
 use rom_fields::OutOfMemory;
 use rom_tree::TreeImage;
 use romfs_format::superblock::stated_size;
+use romfs_image::Romfs;
 use std::alloc::Global;
 
-/// Does the same as `count_gaps` for a romfs image whose root is at `root`.
-fn count_romfs(alloc: Global, all: &[u8], root: u32) -> Result<u32, OutOfMemory>
-    requires { HoldsRomfs all.now root }
-    ensures { IfOk result (λ n. n ≡ romfs_gaps all.now) }
+/// Does the same as `count_gaps` for a romfs image.
+fn count_romfs(alloc: Global, image: &Romfs<'_>) -> Result<u32, OutOfMemory>
+    requires { IsChecked (InRomfs image.now) }
+    ensures { IfOk result (λ n. n ≡ gaps_of (InRomfs image.now)) }
 {
-    let size = stated_size(all);
-    let mut spans = romfs_spans(alloc, &all[..size as usize], root)?;
+    let size = stated_size(image.bytes());
+    let mut spans = image.extents(alloc)?;
     Ok(unused_bytes(&mut spans, size))
 }
 
@@ -46,7 +47,7 @@ pub fn count_gaps(alloc: Global, image: &AnyImage<'_>) -> Result<u32, OutOfMemor
     ensures { IfOk result (λ n. n ≡ gaps_of image.now) }
 {
     match image {
-        AnyImage::Romfs(image) => count_romfs(alloc, image.bytes(), image.parts().root),
+        AnyImage::Romfs(image) => count_romfs(alloc, image),
         AnyImage::Cramfs(image) => count_cramfs(alloc, image.parts().order, image.bytes()),
     }
 }

@@ -19,7 +19,6 @@ pub mod laws;
 mod line;
 mod map_line;
 mod mapping;
-mod romfs_records;
 mod runs;
 mod spans;
 mod superblock;

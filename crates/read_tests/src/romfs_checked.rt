@@ -1,7 +1,7 @@
 //! Images of romfs that are accepted, and others with faults.
 use crate::checked::{counts, fault};
 use rom_faults::CheckError;
-use rom_fields::{part, put_be32};
+use rom_fields::{Extent, Span, part, put_be32};
 use rom_tree::{Limits, NodeId, Report, TreeImage};
 use romfs_image::Romfs;
 use std::alloc::Global;
@@ -153,5 +153,29 @@ fn runs(rt: HostRuntime) -> Result<(), Fail> {
     let run = image.run(NodeId(96), 2).ok_or("has a third byte")?;
     assert!(rt; (run.place, run.len) == (130, 3));
     assert!(rt; image.run(NodeId(96), 5).is_none());
+    Ok(())
+}
+
+/// The extents of an image.
+fn extents(alloc: Global, b: &[u8]) -> Result<Vec<Span>, CheckError> {
+    let image = Romfs::check(alloc, b, Limits::usual())?;
+    let found = image.extents(alloc)?;
+    Ok(found)
+}
+
+#[test]
+fn extents_of_a_file(rt: HostRuntime) -> Result<(), Fail> {
+    let found = extents(rt.alloc(), &hello()).map_err(|_| "is sound")?;
+    let want = [
+        (Extent::Super, 0, 32),
+        (Extent::Record, 32, 32),
+        (Extent::Record, 64, 32),
+        (Extent::Record, 96, 32),
+        (Extent::Data, 128, 5),
+    ];
+    assert!(rt; found.len() == want.len());
+    for (x, (kind, start, len)) in found.iter().zip(&want) {
+        assert!(rt; x.kind == *kind && (x.start, x.len) == (*start, *len));
+    }
     Ok(())
 }

@@ -11,3 +11,4 @@ pub mod Exact
 pub mod Least
 pub mod Faultless
 pub mod Whole
+pub mod Refused

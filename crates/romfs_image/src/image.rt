@@ -22,6 +22,7 @@ pub struct Romfs<'a> {
     references: u32,
     depth: u32,
     ghost sound: { IsRomfs accessible.bytes.now accessible.root references },
+    ghost few: { references < 2 ^ 32 },
     ghost within: { length accessible.bytes.now ≤ length all.now },
     ghost front: { accessible.bytes.now ≡ take (length accessible.bytes.now) all.now },
 }

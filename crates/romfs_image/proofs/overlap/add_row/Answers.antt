@@ -34,6 +34,7 @@ returns-in_ok-add-2 c =
     let x : Row = c.args.row in
     let h : has_data (type_of b x.offset) ≡ true =
     sym (ap has_data c.type_at-kind.ensures) ∙ data_by c.type_at-kind.result c.then-kind-eq2.either in
-    both c.args.extents.now c.add.new.self c.add-then-kind-eq2.new.self b x c.end_at-end.result c.size_at.result
-    c.in_ok-add.ensures.ok c.in_ok-add-2.ensures.ok
+    both c.args.spans.now.items c.add.new.spans.items c.add-then-kind-eq2.new.spans.items b x c.end_at-end.result
+    c.size_at.result
+    c.in_ok-add.ensures c.in_ok-add-2.ensures
     (with_data b x c.end_at-end.result c.size_at.result c.end_at-end.ensures.value c.size_at.ensures h)

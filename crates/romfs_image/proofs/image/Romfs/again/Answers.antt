@@ -1,4 +1,4 @@
-use Rattle.std.proofs.Common.{ℕ, ◌+◌, ◌≤◌, length, take, refl, sym, ap, arith}
+use Rattle.std.proofs.Common.{ℕ, ◌+◌, ◌≤◌, length, take, refl, sym, ap, arith, rules}
 use Rattle.std.proofs.lemmas.List.{length-take-le}
 use Rattle.romfs_image.proofs.image.Romfs.again.Goals as goal
 
@@ -15,7 +15,7 @@ invariant_of-result c =
     let all = c.args.all.now in
     let e = length-take-le n all c.requires.within in
     let w : length (take n all) ≤ length all = omega (arith, e, c.requires.within) in
-    record { sound = c.requires.sound; within = w; front = ap (λ (v : ℕ). take v all) (sym e) }
+    record { sound = c.requires.sound; few = search rules; within = w; front = ap (λ (v : ℕ). take v all) (sym e) }
 
 pub returns-clause-tree : goal.returns-clause-tree
 returns-clause-tree c = refl

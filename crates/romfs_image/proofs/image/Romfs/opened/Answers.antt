@@ -19,6 +19,7 @@ invariant_of-result c =
     record {
       sound = romfs_by c.requires.superblock c.args.limits.references c.args.limits.depth w.0 c.args.rows.now
           c.args.b.small w.1 w.2;
+      few = c.requires.few;
       front = front c.args.all.now c.args.b.bytes.now (full_size c.args.all.now) c.requires.superblock.cut;
       within = within c.args.all.now c.args.b.bytes.now (full_size c.args.all.now) c.requires.superblock.cut;
     }
