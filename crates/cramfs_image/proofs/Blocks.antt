@@ -317,25 +317,6 @@ done_end o b files i done base es l w = record {
       (get_or_default files j no_file d m) (w.back j (omega arith));
 }
 
--- the blocks that are added are among the bytes
-pub block_fits : (o : Order) (b : List ℕ) (f : File) (done start n i : ℕ) → FileLies o b f → done % 4 ≡ 0
-    → start ≡ max f.table done → n ≡ whole_end f.table f.size - start → i < n / 4 → length b < 2 ^ 32
-    → block_start (word o b (start + 4 * i)) + 4096 < 2 ^ 32
-block_fits o b f done start n i h a e m l s =
-    let w = first_facts o b f done h a in
-    let x : f.table ≤ start = (let y = w.0 in omega arith) in
-    let z : start % 4 ≡ 0 = ap (λ (v : ℕ). v % 4) e ∙ w.2 in
-    let k = h.aligned in
-    let at : f.table + 4 * ((start - f.table) / 4 + i) ≡ start + 4 * i = omega arith in
-    let inside : (start - f.table) / 4 + i < f.size / 4096 = omega arith in
-    let lies = h.blocks ((start - f.table) / 4 + i) (omega arith) in
-    let len : min 4096 (f.size - 4096 * ((start - f.table) / 4 + i)) ≡ 4096 = min-eq_left (omega arith) in
-    let r : block_start (word o b (start + 4 * i)) + 4096 ≤ length b =
-    subst (λ (v : ℕ). block_start (word o b v) + 4096 ≤ length b) at
-    (subst (λ (v : ℕ). block_start (word o b (f.table + 4 * ((start - f.table) / 4 + i))) + v
-    ≤ length b) len lies) in
-    omega arith
-
 pub all_spans_shareable : (o : Order) (b : List ℕ) (fs : List File)
     → Every (λ (z : Span). is_shareable z.kind ≡ true) (flat_map (spans_of o b) fs)
 all_spans_shareable o b [] = tt

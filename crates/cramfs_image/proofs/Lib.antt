@@ -17,3 +17,5 @@ pub mod Exact
 pub mod Least
 pub mod Whole
 pub mod Faultless
+pub mod Refused
+pub mod Listing

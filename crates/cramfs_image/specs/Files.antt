@@ -11,7 +11,7 @@ use Rattle.record_forest.specs.Members.{Has}
 use Rattle.cramfs_format.specs.Order.{word}
 use Rattle.cramfs_format.specs.declared.order.Order.{Order}
 use Rattle.cramfs_format.specs.Inode.{type_of, size_of, offset_of, has_data, block_count}
-use Rattle.cramfs_format.specs.Inode.{block_start, block_len}
+use Rattle.cramfs_format.specs.Inode.{block_start}
 use Rattle.cramfs_format.specs.Tree.{data_from}
 use Rattle.cramfs_image.specs.declared.overlap.File.{File}
 
@@ -30,14 +30,12 @@ abbrev pub spans_of : Order → List ℕ → File → List Span
 spans_of o b f = added Table f.table (4 * block_count f.size)
     ++ data_from o b (block_count f.size) f.table f.size
 
--- the block pointers and the blocks of a file are among the bytes
+-- the block pointers of a file are among the bytes
 pub record FileLies (o : Order) (b : List ℕ) (f : File) : Type 0 where
   pub aligned : f.table % 4 ≡ 0
   pub low : f.table < 2 ^ 28
   pub small : f.size < 2 ^ 24
   pub table : 0 < f.size → f.table + 4 * block_count f.size ≤ length b
-  pub blocks : (i : ℕ) → i < block_count f.size
-      → block_start (word o b (f.table + 4 * i)) + block_len f.size i ≤ length b
 
 -- the offset at which the pointers to whole blocks end
 abbrev pub whole_end : ℕ → ℕ → ℕ

@@ -4,3 +4,4 @@ pub mod Checked
 pub mod Reported
 pub mod Files
 pub mod Parts
+pub mod Extents

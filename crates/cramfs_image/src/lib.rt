@@ -5,11 +5,12 @@
 //!
 //! Proved: an image is returned only if the bytes hold a tree of files, as `cramfs_format` defines
 //! it, and have no fault. A fault is returned only if they hold no tree, and it is the least one.
-//! Each call on the image answers from the tree. By `laws::exact` there is no fault exactly if
-//! there is a tree.
+//! Each call on the image answers from the tree, and `Cramfs::extents` lists the extents of the
+//! tree. By `laws::exact` there is no fault exactly if there is a tree.
 #![tactic(auto)]
 
 mod accessible;
+mod again;
 mod check;
 mod depth;
 mod fields;

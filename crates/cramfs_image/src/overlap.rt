@@ -1,22 +1,22 @@
-//! The phase that looks for parts of the image that overlap.
+//! The extents of the rows of an image, and the phase that looks for two that overlap.
 ghost use Rattle.std.specs.Prelude.{◌≡◌, ◌+◌, ◌*◌, ◌%◌, ◌<◌, ◌≤◌, ◌^◌, ◌++◌, ℕ, max, length, OnOk};
-ghost use Rattle.std.specs.Prelude.{IfOk, true};
+ghost use Rattle.std.specs.Prelude.{IfOk, true, Option};
 ghost use Rattle.std.specs.List.{All, AllByRecursion as Every};
 ghost use Rattle.std.specs.List.Sorted.{IsNonDecreasingBy};
-ghost use Rattle.rom_fields.specs.Extents.{OverlapsAt, IsLeastOf};
-ghost use Rattle.cramfs_format.specs.Order.{word as word_of};
-ghost use Rattle.cramfs_format.specs.Inode.{type_of, size_of, offset_of, has_data, block_start};
+ghost use Rattle.rom_fields.specs.Extents.{OverlapsAt, IsLeastOf, added};
+ghost use Rattle.cramfs_format.specs.Inode.{type_of, size_of, offset_of, has_data};
 ghost use Rattle.cramfs_format.specs.Tree.{extents_of};
 ghost use Rattle.cramfs_image.specs.declared.overlap.File.{File};
 ghost use Rattle.cramfs_image.specs.Phases.{IsRecord};
 ghost use Rattle.cramfs_image.specs.Files.{list_part, file_part, FileLies, whole_end, whole_blocks};
 ghost use Rattle.cramfs_image.specs.Files.{file_added, AddsFiles};
+ghost use Rattle.cramfs_image.specs.Extents.{AreTheSame};
 
 use crate::accessible::Accessible;
 use crate::soundness::has_contents;
 use cramfs_format::inode::{blocks_of, start_of};
 use record_forest::Row;
-use rom_fields::{Extent, Extents, OutOfMemory};
+use rom_fields::{Extent, OutOfMemory, Span};
 use std::alloc::Global;
 
 /// A file or a link: the offset of its block pointers, and its size.
@@ -26,23 +26,31 @@ pub struct File {
     pub size: u32,
 }
 
+/// Adds an extent at the end. One of length 0 is ignored.
+fn add(extents: &mut Vec<Span>, kind: Extent, start: u32, len: u32) -> Result<(), OutOfMemory>
+    ensures { OnOk result (extents.new.items ≡ extents.old.items ++ added kind start len) }
+{
+    if len > 0 {
+        extents.push(Span { kind, start, len })?;
+    }
+    Ok(())
+}
+
 /// Adds the whole blocks of some pointers from `at` on.
 fn add_blocks(
-    extents: &mut Extents,
+    extents: &mut Vec<Span>,
     b: &Accessible<'_>,
     at: u32,
     count: u32,
 ) -> Result<(), OutOfMemory>
     requires small { at + 4 * count < 2 ^ 32 }
     requires pointers { (i : ℕ) → i < count → at + 4 * i + 4 ≤ length b.now.bytes.now }
-    requires blocks { (i : ℕ) → i < count
-        → block_start (word_of b.now.order b.now.bytes.now (at + 4 * i)) + 4096 < 2 ^ 32 }
-    ensures { OnOk result (extents.new ≡ extents.old
+    ensures { OnOk result (extents.new.items ≡ extents.old.items
         ++ whole_blocks b.now.order b.now.bytes.now count at) }
 {
     'pointers: for i in 0..count {
         let pointer = b.word((at + 4 * i) as usize);
-        extents.add(Extent::Data, start_of(pointer), 4_096)?;
+        add(extents, Extent::Data, start_of(pointer), 4_096)?;
     }
     Ok(())
 }
@@ -50,7 +58,7 @@ fn add_blocks(
 /// Adds the block pointers and the blocks of a file, except the whole blocks of pointers before
 /// `done`. Returns the offset up to which whole blocks are then added.
 fn add_file(
-    extents: &mut Extents,
+    extents: &mut Vec<Span>,
     b: &Accessible<'_>,
     file: File,
     done: u32,
@@ -58,28 +66,28 @@ fn add_file(
     requires lies { FileLies b.now.order b.now.bytes.now file }
     requires aligned { done % 4 ≡ 0 }
     requires low { done < 2 ^ 29 }
-    ensures extents { OnOk result (extents.new ≡ extents.old
+    ensures extents { OnOk result (extents.new.items ≡ extents.old.items
         ++ file_added b.now.order b.now.bytes.now file.table file.size done) }
     ensures done { IfOk result (λ d. d ≡ max done (whole_end file.table file.size)) }
 {
     let end = file.table + 4 * (file.size / 4_096);
     let first = file.table.max(done);
     let rest = file.size % 4_096;
-    extents.add(Extent::Table, file.table, 4 * blocks_of(file.size))?;
+    add(extents, Extent::Table, file.table, 4 * blocks_of(file.size))?;
     add_blocks(extents, b, first, end.saturating_sub(first) / 4)?;
     if rest > 0 {
-        extents.add(Extent::Data, start_of(b.word(end as usize)), rest)?;
+        add(extents, Extent::Data, start_of(b.word(end as usize)), rest)?;
     }
     Ok(done.max(end))
 }
 
 /// Adds the block pointers and the blocks of files, which are sorted by the offset of their
 /// pointers. A whole block is added once for each pointer, even if several files have the pointer.
-fn add_files(extents: &mut Extents, b: &Accessible<'_>, files: &[File]) -> Result<(), OutOfMemory>
+fn add_files(extents: &mut Vec<Span>, b: &Accessible<'_>, files: &[File]) -> Result<(), OutOfMemory>
     requires lie { All (FileLies b.now.order b.now.bytes.now) files.now }
     requires sorted { IsNonDecreasingBy (λ (f : File). f.table) files.now }
-    ensures { OnOk result (AddsFiles b.now.order b.now.bytes.now files.now extents.old
-        extents.new) }
+    ensures { OnOk result (AddsFiles b.now.order b.now.bytes.now files.now
+        extents.old.items extents.new.items) }
 {
     let mut done: u32 = 0;
     'files: for file in files {
@@ -106,13 +114,13 @@ fn file_at(b: &Accessible<'_>, at: usize) -> File
 
 /// Adds the list of a directory, and notes a file or a link.
 fn add_row(
-    extents: &mut Extents,
+    extents: &mut Vec<Span>,
     files: &mut Vec<File>,
     b: &Accessible<'_>,
     row: Row,
 ) -> Result<(), OutOfMemory>
     requires record { IsRecord b.now.order b.now.bytes.now row.offset }
-    ensures extents { OnOk result (extents.new ≡ extents.old
+    ensures extents { OnOk result (extents.new.items ≡ extents.old.items
         ++ list_part b.now.order b.now.bytes.now row) }
     ensures files { OnOk result (files.new.items ≡ files.old.items
         ++ file_part b.now.order b.now.bytes.now row) }
@@ -121,12 +129,37 @@ fn add_row(
 {
     let at = row.offset as usize;
     if b.type_at(at) == 4 {
-        extents.add(Extent::List, b.offset_at(at), b.size_at(at))?;
+        add(extents, Extent::List, b.offset_at(at), b.size_at(at))?;
     }
     if has_contents(b, at) {
         files.push(file_at(b, at))?;
     }
     Ok(())
+}
+
+/// Returns the extents of the superblock and of the records of these rows: first the superblock,
+/// then the lists in the order of the rows, then the block pointers and blocks of files by the
+/// offset of their pointers (the order is not proved).
+pub fn all_extents(
+    alloc: Global,
+    b: &Accessible<'_>,
+    rows: &[Row],
+) -> Result<Vec<Span>, OutOfMemory>
+    requires records { All (λ x. IsRecord b.now.order b.now.bytes.now x.offset) rows.now }
+    ensures same { IfOk result (λ v. AreTheSame v.items
+        (extents_of b.now.order b.now.bytes.now rows.now)) }
+    ensures overlaps { IfOk result (λ v. (o : Option ℕ) → IsLeastOf (OverlapsAt v.items) o
+        → IsLeastOf (OverlapsAt (extents_of b.now.order b.now.bytes.now rows.now)) o) }
+{
+    let mut extents: Vec<Span> = Vec::new(alloc);
+    let mut files: Vec<File> = Vec::new(alloc);
+    add(&mut extents, Extent::Super, 0, 76)?;
+    'rows: for row in rows {
+        add_row(&mut extents, &mut files, b, *row)?;
+    }
+    files.sort_unstable_by_key(|x| x.table);
+    add_files(&mut extents, b, &files)?;
+    Ok(extents)
 }
 
 /// Returns the least offset at which two extents of the image overlap, or `None` if no two do.
@@ -139,13 +172,6 @@ pub fn least_overlap(
     ensures { IfOk result (IsLeastOf (OverlapsAt
         (extents_of b.now.order b.now.bytes.now rows.now))) }
 {
-    let mut extents = Extents::new(alloc);
-    let mut files: Vec<File> = Vec::new(alloc);
-    extents.add(Extent::Super, 0, 76)?;
-    'rows: for row in rows {
-        add_row(&mut extents, &mut files, b, *row)?;
-    }
-    files.sort_unstable_by_key(|x| x.table);
-    add_files(&mut extents, b, &files)?;
-    Ok(extents.first_overlap())
+    let mut extents = all_extents(alloc, b, rows)?;
+    Ok(rom_fields::least_overlap(&mut extents))
 }

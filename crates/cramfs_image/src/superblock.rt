@@ -18,9 +18,9 @@ use rom_faults::{Fault, fault};
 /// The value of the CRC's own field when the CRC is computed.
 const NO_CRC: [u8; 4] = [0; 4];
 
-/// The accessible bytes, if the image can have its stated size.
+/// Returns the accessible bytes, or `None` if the image cannot have its stated size.
 #[tactic(auto, unfolding(cramfs_format::specs::Superblock::accessible_size))]
-fn accessible_bytes<'a>(order: Order, bytes: &'a [u8]) -> Option<&'a [u8]>
+pub fn accessible_bytes<'a>(order: Order, bytes: &'a [u8]) -> Option<&'a [u8]>
     requires { 76 ≤ length bytes.now }
     ensures part { SomeIff (option_copied result) (HasSize order bytes.now)
         (accessible order bytes.now) }

@@ -16,8 +16,6 @@ use Rattle.cramfs_format.specs.Inode.{offset_of, block_count, block_start, size_
 use Rattle.cramfs_format.specs.Refers.{references}
 use Rattle.cramfs_format.specs.Tree.{row_extents, file_extents, data_from, IsTree}
 use Rattle.image_info.specs.Gaps.{cramfs_forest, cramfs_extents}
-use Rattle.image_info.specs.Records.{cramfs_record, cramfs_list, cramfs_file, cramfs_contents}
-use Rattle.image_info.proofs.CramfsWalk.{taken}
 use Rattle.image_info.proofs.Forests.{cramfs_is}
 use Rattle.image_extents.specs.declared.extent.Record.{Record}
 use Rattle.image_extents.specs.declared.extent.Extent.{Extent}
@@ -29,6 +27,28 @@ use Rattle.image_extents.specs.Found.{cramfs_all_found}
 use Rattle.image_extents.specs.Sorted.{AreBlocks}
 use Rattle.image_extents.specs.Apart.{AreApart}
 use Rattle.image_extents.proofs.Apart.{span_of, apart_of, span_found}
+
+-- the list of a directory
+abbrev cramfs_list : Order → List ℕ → ℕ → List Span
+cramfs_list o b p = if type_of o b p == 4 then added span.List (offset_of o b p) (size_of o b p) else []
+
+-- the table at t of a file of `size` bytes, and its blocks
+abbrev cramfs_file : Order → List ℕ → ℕ → ℕ → List Span
+cramfs_file o b t size = added span.Table t (4 * block_count size) ++ data_from o b (block_count size) t size
+
+-- the table and the blocks of a file or a link
+abbrev cramfs_contents : Order → List ℕ → ℕ → List Span
+cramfs_contents o b p =
+    if has_data (type_of o b p) then cramfs_file o b (offset_of o b p) (size_of o b p) else []
+
+-- the extents of one record
+abbrev cramfs_record : Order → List ℕ → ℕ → List Span
+cramfs_record o b p = cramfs_list o b p ++ cramfs_contents o b p
+
+-- the extents of the records of a forest
+abbrev taken : Order → List ℕ → Forest → List Span
+taken o b none = []
+taken o b (at p own after) = cramfs_record o b p ++ (taken o b own ++ taken o b after)
 
 alone : (xs : List Extent) (y : Extent) → with_block false xs y ≡ xs ++ y ∷ []
 alone [] y = refl

@@ -21,21 +21,23 @@ use Rattle.cramfs_format.specs.Refers.{references as cramfs_references}
 use Rattle.cramfs_format.specs.Superblock.{accessible as cramfs_accessible, accessible_size, has_crc, size_word}
 use Rattle.cramfs_format.specs.Superblock.{IsSuperblock as IsCramfsSuperblock}
 use Rattle.cramfs_format.specs.Tree.{CramfsTree, IsTree as IsCramfsTree}
+use Rattle.cramfs_format.specs.Tree.{extents_of as extents_of_cramfs}
 use Rattle.cramfs_format.specs.Made.{IsCramfs}
 use Rattle.cramfs_format.proofs.Bridge.{accepted as cramfs_accepted}
 use Rattle.cramfs_image.specs.declared.image.Cramfs.{Cramfs}
 use Rattle.cramfs_image.specs.Reported.{order_in}
+use Rattle.cramfs_image.specs.Checked.{Shows as CramfsShows}
+use Rattle.cramfs_image.specs.Extents.{AreTheSame}
 use Rattle.image_check.specs.declared.any.AnyImage.{AnyImage}
 use Rattle.image_check.specs.declared.any.AnyImage.TheVariants.{Romfs as InRomfs, Cramfs as InCramfs}
 use Rattle.image_check.specs.Any.{any_view, report_of}
 use Rattle.image_check.specs.Checked.{Shows, romfs, cramfs, HasFormat}
 use Rattle.image_check.proofs.Formats.{apart}
 use Rattle.image_info.specs.Unused.{unused}
-use Rattle.image_info.specs.Gaps.{romfs_extents, romfs_gaps, cramfs_extents, cramfs_gaps, IsChecked}
+use Rattle.image_info.specs.Gaps.{romfs_extents, romfs_gaps, cramfs_forest, cramfs_extents, cramfs_gaps, IsChecked}
 use Rattle.image_info.specs.Held.{HoldsRomfs, HoldsCramfs}
-use Rattle.image_info.specs.Records.{CoverTheSame}
 use Rattle.image_info.proofs.Covered.{unused_same}
-use Rattle.image_info.proofs.Forests.{romfs_is}
+use Rattle.image_info.proofs.Forests.{romfs_is, cramfs_is}
 
 -- an image that a check shows is one that it returned
 shown_bytes : (all : List ℕ) (l : Limits) (a : AnyImage) → Shows all l (any_view a) (report_of a)
@@ -95,14 +97,23 @@ cramfs_held o all most deepest k x t n small = record {
   few = subst (λ (b : List ℕ). length (all_rows (cramfs_references o b) t.forest) ≤ 2 ^ 32) t.super.cut (omega arith);
 }
 
-pub checked_cramfs : (s : Cramfs) → IsChecked (InCramfs s) → s.references < 2 ^ 32 → HoldsCramfs (order_in s) s.all.now
-checked_cramfs s c small = by c.shows
+-- the check of cramfs returned it, too
+pub cramfs_shown : (s : Cramfs) (c : IsChecked (InCramfs s))
+    → CramfsShows (order_in s) s.all.now c.limits (any_view (InCramfs s)) (report_of (InCramfs s))
+cramfs_shown s c = by c.shows
   where
-    by : Shows s.all.now c.limits (any_view (InCramfs s)) (report_of (InCramfs s)) → HoldsCramfs (order_in s) s.all.now
+    by : Shows s.all.now c.limits (any_view (InCramfs s)) (report_of (InCramfs s))
+        → CramfsShows (order_in s) s.all.now c.limits (any_view (InCramfs s)) (report_of (InCramfs s))
     by (romfs h) = absurd (apart _ s.all.now h.tree.super.begins c.format.0.1)
-    by (cramfs h) = subst (λ (o : Order). HoldsCramfs o s.all.now) (sym c.format.1)
-        (cramfs_held _ s.all.now c.limits.references c.limits.depth s.references
-        (any_view (InCramfs s)).tree h.tree h.count small)
+    by (cramfs h) =
+        subst (λ (o : Order). CramfsShows o s.all.now c.limits (any_view (InCramfs s)) (report_of (InCramfs s)))
+        (sym c.format.1) h
+
+pub checked_cramfs : (s : Cramfs) → IsChecked (InCramfs s) → s.references < 2 ^ 32 → HoldsCramfs (order_in s) s.all.now
+checked_cramfs s c small =
+    let h = cramfs_shown s c in
+    cramfs_held (order_in s) s.all.now c.limits.references c.limits.depth s.references (any_view (InCramfs s)).tree
+    h.tree h.count small
 
 -- the accessible bytes of romfs, and what is known of them
 pub romfs_known : (all : List ℕ) (r size : ℕ) → HoldsRomfs all r → size < 2 ^ 32 → size ≡ word_be all 8
@@ -184,13 +195,19 @@ cramfs_known o all size h small e =
     )
 
 pub cramfs_counted : (o : Order) (all : List ℕ) (size result : ℕ) (given spans : List Span) → HoldsCramfs o all
-    → size ≡ accessible_size o all → given ≡ spans → CoverTheSame spans (cramfs_extents o (take size all))
+    → size ≡ accessible_size o all → given ≡ spans
+    → ((b : List ℕ) (most deepest : ℕ) (f : Forest) → IsCramfsSuperblock o all b → IsCramfsTree o b most deepest f
+    → AreTheSame spans (extents_of_cramfs o b (all_rows (cramfs_references o b) f)))
     → result ≡ unused given 0 size → result ≡ cramfs_gaps o all
-unfolding cramfs_gaps
+unfolding cramfs_gaps cramfs_extents
 cramfs_counted o all size result given spans h e g f u =
     let b : List ℕ = cramfs_accessible o all in
     let w = (cramfs_size o all h).0 in
     let l : length b ≡ min (accessible_size o all) (length all) = length-take (accessible_size o all) all in
     let n : size ≡ length b = grind (arith, l, e, w) in
-    u ∙ ap (λ (v : List Span). unused v 0 size) g ∙ unused_same spans (cramfs_extents o (take size all)) 0 size f
-    ∙ ap (λ (v : ℕ). unused (cramfs_extents o (take v all)) 0 size) e ∙ ap (unused (cramfs_extents o b) 0) n
+    let same = f b h.most h.deepest h.forest h.superblock h.whole in
+    let is : cramfs_forest o b ≡ h.forest = cramfs_is o b h.most h.deepest h.forest h.whole h.few in
+    u ∙ ap (λ (v : List Span). unused v 0 size) g
+    ∙ unused_same spans (extents_of_cramfs o b (all_rows (cramfs_references o b) h.forest)) 0 size same
+    ∙ ap (λ (v : Forest). unused (extents_of_cramfs o b (all_rows (cramfs_references o b) v)) 0 size) (sym is)
+    ∙ ap (unused (extents_of_cramfs o b (all_rows (cramfs_references o b) (cramfs_forest o b))) 0) n

@@ -1,6 +1,5 @@
 pub mod Left
 pub mod Covered
-pub mod CramfsWalk
 pub mod Forests
 pub mod Given
 pub mod Pieces

@@ -1,6 +1,5 @@
 pub mod Unused
 pub mod Gaps
-pub mod Records
 pub mod Held
 pub mod Runs
 pub mod Map

@@ -1,13 +1,12 @@
 //! The count of the bytes that nothing uses.
 ghost use Rattle.std.specs.Prelude.{◌≡◌, ◌≤◌, length, IfOk};
 ghost use Rattle.image_check.specs.declared.any.AnyImage.TheVariants.{Romfs as InRomfs};
-ghost use Rattle.image_info.specs.Gaps.{cramfs_gaps, gaps_of, IsChecked};
-ghost use Rattle.image_info.specs.Held.{HoldsCramfs};
+ghost use Rattle.image_check.specs.declared.any.AnyImage.TheVariants.{Cramfs as InCramfs};
+ghost use Rattle.image_info.specs.Gaps.{gaps_of, IsChecked};
 
-use crate::cramfs_records::cramfs_spans;
 use crate::spans::unused_bytes;
-use cramfs_format::Order;
 use cramfs_format::superblock::accessible_size;
+use cramfs_image::Cramfs;
 use image_check::AnyImage;
 use rom_fields::OutOfMemory;
 use rom_tree::TreeImage;
@@ -26,18 +25,19 @@ fn count_romfs(alloc: Global, image: &Romfs<'_>) -> Result<u32, OutOfMemory>
 }
 
 /// Does the same as `count_gaps` for a cramfs image.
-fn count_cramfs(alloc: Global, order: Order, all: &[u8]) -> Result<u32, OutOfMemory>
-    requires { HoldsCramfs order all.now }
-    ensures { IfOk result (λ n. n ≡ cramfs_gaps order all.now) }
+fn count_cramfs(alloc: Global, image: &Cramfs<'_>) -> Result<u32, OutOfMemory>
+    requires { IsChecked (InCramfs image.now) }
+    ensures { IfOk result (λ n. n ≡ gaps_of (InCramfs image.now)) }
 {
-    let size = accessible_size(order, all);
-    let mut spans = cramfs_spans(alloc, order, &all[..size as usize])?;
+    let size = accessible_size(image.parts().order, image.bytes());
+    let mut spans = image.extents(alloc)?;
     Ok(unused_bytes(&mut spans, size))
 }
 
 /// Counts the accessible bytes of an image that nothing uses: no superblock, record with its name,
-/// list, table or contents. The records are read again. For n records and blocks, the time grows as
-/// n log n, and the memory is some 20 bytes for each of them (this is not proved).
+/// list, table or contents. The records are read again. For r records and w block pointers, the
+/// time grows as n log n, with n = r + w. The memory is some 120 bytes a record and 24 a pointer.
+/// (Time and memory are not proved.)
 ///
 /// # Errors
 ///
@@ -48,6 +48,6 @@ pub fn count_gaps(alloc: Global, image: &AnyImage<'_>) -> Result<u32, OutOfMemor
 {
     match image {
         AnyImage::Romfs(image) => count_romfs(alloc, image),
-        AnyImage::Cramfs(image) => count_cramfs(alloc, image.parts().order, image.bytes()),
+        AnyImage::Cramfs(image) => count_cramfs(alloc, image),
     }
 }

@@ -12,7 +12,6 @@
 
 mod contents;
 mod counting;
-mod cramfs_records;
 mod digits;
 mod info;
 pub mod laws;

@@ -1,26 +1,10 @@
-//! Extents in a list, and the number of bytes that are in none of them.
-ghost use Rattle.std.specs.Prelude.{◌≡◌, ◌+◌, ◌++◌, min, OnOk};
+//! The number of bytes that are in none of some extents.
+ghost use Rattle.std.specs.Prelude.{◌≡◌, ◌+◌, min};
 ghost use Rattle.std.specs.List.Sorted.{IsNonDecreasingBy};
 ghost use Rattle.rom_fields.specs.declared.span.Span.{Span};
-ghost use Rattle.rom_fields.specs.Extents.{added};
 ghost use Rattle.image_info.specs.Unused.{unused};
 
-use rom_fields::{Extent, OutOfMemory, Span};
-
-/// Adds an extent at the end. One of length 0 is ignored.
-pub(crate) fn add(
-    spans: &mut Vec<Span>,
-    kind: Extent,
-    start: u32,
-    len: u32,
-) -> Result<(), OutOfMemory>
-    ensures { OnOk result (spans.new.items ≡ spans.old.items ++ added kind start len) }
-{
-    if len > 0 {
-        spans.push(Span { kind, start, len })?;
-    }
-    Ok(())
-}
+use rom_fields::Span;
 
 /// The offset among `size` bytes at which an extent ends.
 fn end_within(x: Span, size: u32) -> u32
