@@ -326,6 +326,7 @@ static inline const char *romtool_strerror(uint32_t error) {
 /* Returns the name of the fault of this number, as `romtool check` prints it, or "Unknown" if no fault has it. */
 static inline const char *romtool_fault_name(uint32_t fault) {
     switch (fault) {
+    /* made by tools/tables faults */
     case 1u: return "TooMany";
     case 2u: return "Short";
     case 3u: return "Magic";
@@ -349,6 +350,7 @@ static inline const char *romtool_fault_name(uint32_t fault) {
     case 24u: return "Dot";
     case 25u: return "HardLink";
     case 26u: return "Unsorted";
+    /* end */
     default: return "Unknown";
     }
 }

@@ -23,9 +23,13 @@ import tempfile
 
 import run
 from files import put
-from harness import SECONDS, Counts, parser, program_of
+from harness import SECONDS, TOP, Counts, parser, program_of
 from images import with_sums
 from romtool import run as ran
+
+sys.path.insert(0, os.path.join(TOP, "tools"))
+
+import faults  # noqa: E402
 
 # image -> where a fault line begins to hold, by length: it holds up to the next one.
 CUTS = {
@@ -56,17 +60,9 @@ CHANGED = {
     "cramfs/one-table-for-two-files/image": [],
 }
 
-FAULTS = {
-    "romfs": {
-        2: "Short", 3: "Magic", 4: "Size", 5: "Sum", 9: "Root", 11: "Bounds", 12: "HeaderSum", 13: "BadName",
-        15: "LinkSize", 20: "Twice", 22: "Overlap", 23: "DupName", 24: "Dot", 25: "HardLink",
-    },
-    "cramfs": {
-        2: "Short", 3: "Magic", 4: "Size", 6: "Flags", 7: "Crc", 8: "Signature", 9: "Root", 11: "Bounds",
-        13: "BadName", 14: "Kind", 15: "LinkSize", 16: "BlockKind", 17: "ListEnd", 20: "Twice",
-        22: "Overlap", 23: "DupName", 24: "Dot", 26: "Unsorted",
-    },
-}  # fmt: skip
+# the faults that a changed image may have: those of its format, except for those of too many references or names
+LIMITS = ("TooMany", "TooDeep")
+FAULTS = {format: {number: name for number, name in faults.of_format(format).items() if name not in LIMITS} for format in faults.FORMATS}
 
 OK = re.compile(rb"ok (romfs|cramfs) ([0-9]+) ([0-9]+)\n")
 FAULT = re.compile(rb"fault ([0-9]+) ([A-Za-z]+) at ([0-9]+)\n")

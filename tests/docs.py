@@ -12,11 +12,15 @@
   is proved has to be declared in its crate, a method in its type.
 - What a tool makes of a document has to be what the tool prints.
 - The table of parts in GATE.md has to name the parts of tests/parts, in any order.
+- Each fault of the table in tools/faults.py has a section and a phase in FAULTS.md, and a row in FORMATS.md. For each format of
+  its rows a case of tests/cases has it. What is made of the table has to be as `tools/tables faults` writes it.
+- The guide for new faults in CONTRIBUTING.md has to name each file that mentions the newest fault, except those that are made.
 
 The last line is `N passed, M failed`, with `, K skipped`.
 """
 
 import glob
+import json
 import os
 import re
 import shutil
@@ -29,6 +33,10 @@ from harness import HERE, SECONDS, Counts, parser, program_of
 from rooms import NOBODY
 
 TOP = os.path.dirname(HERE)
+sys.path.insert(0, os.path.join(TOP, "tools"))
+
+import faults  # noqa: E402
+
 BLOCK = re.compile(r"^```(console|\w+ from=\S+)\n(.*?)^```$", re.M | re.S)
 LINK = re.compile(r"\]\(([^)\s]+)\)")
 # the parts of documents that tools make, each between a mark and the next `<!-- end -->`
@@ -41,6 +49,9 @@ MADE = (
 FOREIGN = ("std", "core", "io", "fs", "std_io", "clap")
 # where a name is declared, or a trait of std is given to a type
 DECLARED = r"\b(?:fn|struct|enum|trait|type|const|mod) %s\b|\bimpl %s for "
+GUIDE = "CONTRIBUTING.md"
+# what a new fault changes without naming it
+UNNAMED = ("CHANGELOG.md",)
 
 
 def documents():
@@ -231,6 +242,97 @@ def parts(counts):
     counts.equal("GATE.md: its table of parts is that of tests/parts", told, sorted(["gate", *(name for name, *_ in lines)]))
 
 
+def phases_with(number):
+    """Returns how many phases of the table in FAULTS.md have a fault."""
+    rows = re.findall(r"^\| \d+ \|.*\| (\d+)(?: to (\d+))? \|$", text_of("docs/FAULTS.md"), re.M)
+    return sum(int(first) <= number <= int(last or first) for first, last in rows)
+
+
+def faults_of_cases(format):
+    """Returns the numbers and names of the faults that the cases of a format expect: its own, and those of `exact` that begin with it."""
+    cases = json.loads(text_of("tests/cases/%s.json" % format))
+    cases += [it for it in json.loads(text_of("tests/cases/exact.json")) if it["name"].startswith(format + "-")]
+    lines = [str(it.get("out")) for case in cases for it in case["runs"]]
+    return {(int(told[1]), told[2]) for told in (re.match(r"fault (\d+) (\w+) at ", line) for line in lines) if told}
+
+
+def fault_texts(table, counts):
+    """Checks that each fault has a section, a phase, a row for at least one format, and for each format of its rows a case."""
+    text, names = text_of("docs/FAULTS.md"), {it.number: it.name for it in table}
+    for it in table:
+        section = re.search(r"^### %d %s\n\n> (.*)\n\n" % (it.number, it.name), text, re.M)
+        counts.equal("FAULTS.md: the sentence of %d %s" % (it.number, it.name), section and section[1], it.sentence)
+        counts.equal("FAULTS.md: the phases with %d %s" % (it.number, it.name), phases_with(it.number), 1)
+    heads = [int(it) for it in re.findall(r"^### (\d+) ", text, re.M)]
+    counts.equal("FAULTS.md: the numbers of its sections", heads, list(names))
+    unused = [str(it) for it in range(1, max(names)) if it not in names]
+    wanted = "The numbers %s and %s are unused." % (", ".join(unused[:-1]), unused[-1])
+    counts.equal("FAULTS.md: the unused numbers", re.findall(r"^The numbers .* unused\.$", text, re.M), [wanted])
+    rows = {format: faults.of_format(format) for format in faults.FORMATS}
+    all_rows = {pair for it in rows.values() for pair in it.items()}
+    counts.equal("faults that only the table or only FORMATS.md has", sorted(all_rows ^ set(names.items())), [])
+    for format, of_format in rows.items():
+        counts.equal("faults of %s without a case" % format, sorted(set(of_format.items()) - faults_of_cases(format)), [])
+
+
+def mentioning(fault):
+    """Returns the files that mention a fault: its name as a text or after its number, or its constant as one of rom_faults. Proofs are
+    left out: what has to be proved follows from the other files."""
+    named = r'"%s"|\b%d %s\b' % (fault.name, fault.number, fault.name)
+    constant = r"\b%s\b" % fault.constant
+    imported = r"rom_faults[\w.:]*(?:\{[^}]*)?" + constant
+    found = set()
+    for at, folders, files in os.walk(TOP):
+        folders[:] = [it for it in folders if it not in (".git", "out", "proofs", "target", "__pycache__")]
+        for path in (os.path.relpath(os.path.join(at, it), TOP) for it in files):
+            with open(os.path.join(TOP, path), encoding="utf-8", errors="replace") as file:
+                text = file.read()
+            is_own = path.startswith("crates/rom_faults/") or path.endswith(".edit")
+            if re.search("%s|%s" % (named, constant if is_own else imported), text):
+                found.add(path)
+    return found
+
+
+def named_by_guide(fault):
+    """Yields the files that the guide for new faults names: for each the name, what it is for this fault as a pattern, and whether
+    each fault needs it. A word in braces is any word, and `{FAULT}` is the constant of the fault in small letters."""
+    section = re.search(r"^## How to add a fault of an image\n(.*?)^## ", text_of(GUIDE), re.M | re.S)[1]
+    always, _, sometimes = section.partition("| file | only if |")
+    for part in (always, sometimes):
+        for name in re.findall(r"^\| `([^`]+)` \|", part, re.M):
+            pattern = re.escape(name.replace("{FAULT}", fault.constant.lower()))
+            yield name, re.sub(r"\\\{\w+\\\}", r"\\w+", pattern), part is always
+
+
+def guide(newest, counts):
+    """Compares the files that the guide for new faults names with those that mention the newest fault."""
+    found, made, told = mentioning(newest) - {GUIDE}, faults.made_files(), list(named_by_guide(newest))
+    needed = [(name, pattern) for name, pattern, is_needed in told if is_needed and name not in UNNAMED]
+    silent = [name for name, pattern in needed if not any(re.fullmatch(pattern, it) for it in found)]
+    counts.equal("files of the guide for faults that do not mention %s" % newest.name, silent, [])
+    counts.equal("made files that do not mention %s" % newest.name, sorted(made - found), [])
+    lost = [it for it in sorted(found - made) if not any(re.fullmatch(pattern, it) for _, pattern, _ in told)]
+    counts.equal("files that mention %s, and that the guide for faults does not name" % newest.name, lost, [])
+    absent = [name for name, _, _ in told if "{" not in name and not os.path.exists(os.path.join(TOP, name))]
+    counts.equal("files of the guide for faults that do not exist", absent, [])
+
+
+def fault_table(counts):
+    """Checks what is made of the table of faults, the texts of each fault, and the guide for new ones."""
+    try:
+        table, texts = faults.table(), faults.remade()
+    except ValueError as wrong:
+        counts.fails(str(wrong))
+        return
+    for path, text in texts.items():
+        if text == text_of(path):
+            counts.passes()
+        else:
+            counts.fails("%s: it is not what `tools/tables faults` makes of the table" % path)
+    fault_texts(table, counts)
+    guide(table[-1], counts)
+
+
 def main():
     arguments = parser("Check that the documents say what is there.").parse_args()
     binary, counts = program_of(arguments), Counts()
@@ -252,6 +354,7 @@ def main():
     promises(counts)
     made_parts(counts)
     parts(counts)
+    fault_table(counts)
     return counts.close()
 
 

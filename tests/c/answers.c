@@ -343,8 +343,10 @@ static int answer(const char *word, const struct romtool_image *image, uint32_t 
         return 3;
     }
     if (error) {
-        wants(error == ROMTOOL_FAULT && image->fault < 27 && image->status == 0, "another end of a check");
-        printf("fault %" PRIu32 " %s at %" PRIu32 "\n", image->fault, romtool_fault_name(image->fault), image->at);
+        const char *const name = romtool_fault_name(image->fault);
+        wants(error == ROMTOOL_FAULT && image->status == 0, "another end of a check");
+        wants(strcmp(name, "Unknown") != 0, "a fault without a name");
+        printf("fault %" PRIu32 " %s at %" PRIu32 "\n", image->fault, name, image->at);
         return 1;
     }
     wants(image->status == 1 && image->format >= 1 && image->format <= 3, "an image of no format");

@@ -9,9 +9,9 @@ import { escaped, joined, KINDS, MEMORY, Reader } from "../../web/reader.mjs";
 
 const [module, word, name] = process.argv.slice(2);
 const ERRORS = ["", "ENOENT", "ENOTDIR", "ELOOP", "ENAMETOOLONG", "EINVAL", "EBADF", "EISDIR", "ENXIO", "EMFILE", "ERANGE"];
-const FAULTS = ["", "TooMany", "Short", "Magic", "Size", "Sum", "Flags", "Crc", "Signature", "Root", "", "Bounds",
-  "HeaderSum", "BadName", "Kind", "LinkSize", "BlockKind", "ListEnd", "", "", "Twice", "TooDeep", "Overlap", "DupName",
-  "Dot", "HardLink", "Unsorted"];
+// the names of the faults by number, as the header for C has them
+const HEADER = readFileSync(new URL("../../include/romtool.h", import.meta.url), "utf8");
+const FAULTS = Object.fromEntries([...HEADER.matchAll(/case (\d+)u: return "(\w+)";/g)].map((it) => it.slice(1)));
 const reader = await Reader.of(readFileSync(module));
 const out = [];
 

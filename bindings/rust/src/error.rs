@@ -102,6 +102,7 @@ pub struct Fault {
 }
 
 /// The names of the faults by number; empty for a number that no fault has.
+// made by tools/tables faults
 pub(crate) const FAULTS: [&str; 27] = [
     "",
     "TooMany",
@@ -131,6 +132,7 @@ pub(crate) const FAULTS: [&str; 27] = [
     "HardLink",
     "Unsorted",
 ];
+// end
 
 impl Fault {
     /// Returns its name, as `romtool check` prints it.

@@ -1,4 +1,5 @@
 //! The numbers and names of faults.
+use rom_faults::fault::{BLOCK_KIND, HARD_LINK, TOO_MANY};
 use rom_faults::{CheckError, Fault, name};
 use rom_fields::OutOfMemory;
 use std::test::Fail;
@@ -6,9 +7,9 @@ use std::test::Fail;
 #[test]
 fn names(rt: HostRuntime) -> Result<(), Fail> {
     for (number, want) in [
-        (1, "TooMany"),
-        (16, "BlockKind"),
-        (26, "Unsorted"),
+        (TOO_MANY, "TooMany"),
+        (BLOCK_KIND, "BlockKind"),
+        (HARD_LINK, "HardLink"),
         (10, "Unknown"),
     ] {
         assert!(rt; name(number) == want);
