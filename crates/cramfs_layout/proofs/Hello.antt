@@ -102,7 +102,7 @@ planned : IsPlanned (codes "vol") (directory 0)
 unfolding directory file same size_of kept data_of
 planned = record {
   short = omega arith;
-  subdirectory = is_directory 0 (leaf (codes "a") file
+  directory = is_directory 0 (leaf (codes "a") file
       (subdirectory (codes "d") (directory 2) (leaf (codes "c") same nothing) nothing)) (omega arith);
   well = (
     (

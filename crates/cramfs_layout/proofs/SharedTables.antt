@@ -195,7 +195,7 @@ has_shares o volume root n cs h q r x y i j k a c e f g u =
     let t = tree_of o b (all_spots n) in
     let m = with_names root n in
     let refer = files_refer o b cs high 76 s n all h.well image.holds.reads (λ k t z. z) in
-    let first : P (at_place root 64) = λ z. absurd (z h.subdirectory.kind) in
+    let first : P (at_place root 64) = λ z. absurd (z h.directory.kind) in
     let alike = ends_alike o volume root n cs h P first refer in
     ends_share o b cs high all root n x y i j k
     (alike_some (IsEnd o b cs high Q) (node_under q t) (file_under q m) x i (alike q) a e)

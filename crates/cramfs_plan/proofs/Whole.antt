@@ -213,7 +213,7 @@ pub all_small : (o : Order) (volume : List ℕ) (root : Inode) (n : Names) (cs :
 all_small o volume root n cs p fit =
     let s = first_state n in
     let r = item_of o root_place [] root (list_len n) (root_offset n) 0 0 0 no_bytes in
-    let f = p.subdirectory in
+    let f = p.directory in
     let low = f.small in
     let end = room n p.room in
     let own = are_small o cs 1 76 s n p.well fit tt (omega (arith, low)) end in

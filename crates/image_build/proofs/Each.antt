@@ -154,7 +154,7 @@ module _ (volume : List ℕ) (root : Inode) (n : Names) (zs : List (List ℕ)) (
             (all_given (λ k. H k (content_of c.0 k)) c.0 r root n own.well
             (sections_given H c.0 new.items (drop 1 new.sections) c.3));
         links = h.links;
-        bare = h.subdirectory.bytes;
+        bare = h.directory.bytes;
         planned = own;
         is = head ∙ ap (checked g.head balance_of) c.2 ∙ sized;
       }

@@ -253,7 +253,7 @@ meant_of_sources leads m sizes bytes t cs hm plan meant =
     let x = with_names (root_of m.lines sizes) n in
     let all = files_found cs (files n) n plan.well (every_found (files n) plan.lines.1) in
     let found : (q : List (List ℕ)) (i : Inode) → file_named m.lines sizes q ≡ Some i → IsFound cs (files n) i =
-    λ q i e. under_held (IsFound cs (files n)) q x i (inr plan.subdirectory.bytes) all (leads m sizes q hm ∙ e) in
+    λ q i e. under_held (IsFound cs (files n)) q x i (inr plan.directory.bytes) all (leads m sizes q hm ∙ e) in
     record {
       values = λ q. meant.values q ∙ values_found cs n (file_named m.lines sizes q) (found q);
       sized = λ q i k e f. long_found cs n i k (found q i e) f;
@@ -284,7 +284,7 @@ at_source leads m sizes cs hm plan q i k e f =
     let n = tree_of m.lines sizes in
     let all = files_found cs (files n) n plan.well (every_found (files n) plan.lines.1) in
     let found = under_held (IsFound cs (files n)) q (with_names (root_of m.lines sizes) n) i
-    (inr plan.subdirectory.bytes) all
+    (inr plan.directory.bytes) all
     (leads m sizes q hm ∙ e) in
     sym (ap (bytes_given (bytes_at cs n i.line)) f) ∙ sym (bytes_found cs n i found) ∙ ap (bytes_of cs) f
 

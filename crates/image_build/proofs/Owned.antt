@@ -209,7 +209,7 @@ planned_owned volume root n zs cs h have =
     record {
       short = h.short;
       no_zero = h.no_zero;
-      subdirectory = directory_owned root h.subdirectory;
+      directory = directory_owned root h.directory;
       well = well_owned zs cs (files n) have n h.well have h.links;
       lines = subst (λ (is : List Inode). Pairs R (own_file root ∷ is)) (sym fs)
           (every_map own_file (R (own_file root)) (files n) h.lines.0, pairs_map own_file R (files n) h.lines.1);

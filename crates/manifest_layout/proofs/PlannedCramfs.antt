@@ -156,7 +156,7 @@ planned o m cs h none =
     record {
       short = below_by 16 (length m.volume)
           (λ l. none.lines (record { number = 3; at = m.volume_line }) (of_volume l refl));
-      subdirectory = directory_is o m cs latest w n
+      directory = directory_is o m cs latest w n
           (under_by (2 ^ 24) (list_len n) (λ l. none.whole (long_list (inl l)))) r;
       well = well cs n g.sorted (λ l. none.whole (long_list (inr l))) g.hold;
       lines = (root_apart m sizes latest (files n) r w.numbered w.apart g.owned, g.apart);

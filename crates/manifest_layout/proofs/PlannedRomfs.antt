@@ -175,7 +175,7 @@ planned m cs h none =
     record {
       short = omega arith;
       no_zero = v.1;
-      subdirectory = directory_is m cs latest w r;
+      directory = directory_is m cs latest w r;
       well = well cs m.lines latest n g.sorted g.hold;
       lines = (root_apart m sizes latest (files n) r w.numbered w.apart g.owned, g.apart);
       links = links cs m.lines latest (files n) n g.apart g.there g.hold;

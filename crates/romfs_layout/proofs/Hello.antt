@@ -68,7 +68,7 @@ unfolding directory file place_of data_align
 planned = record {
   short = omega arith;
   no_zero = search rules;
-  subdirectory = is_directory 0;
+  directory = is_directory 0;
   well = (
     record {
       written = is_name 97 (λ z. absurd (omega (arith, z))) (λ z. absurd (omega (arith, z)));

@@ -188,7 +188,7 @@ has_apart volume root n cs h q s x y i j a c e f differ =
     let reads = (is_image volume root n cs h).holds.reads in
     let rising = files_rise b cs (place_with xs) r (r + 64) n h.well reads.1.1 in
     let rise : Pairs (IsBefore b) all =
-    (every_all (IsBefore b (at_place root r)) (λ y z. absurd (z h.subdirectory.kind)) xs, rising.rises) in
+    (every_all (IsBefore b (at_place root r)) (λ y z. absurd (z h.directory.kind)) xs, rising.rises) in
     let alike = ends_alike volume root n cs h in
     ends_apart b cs all x y i j rise (alike_some (IsEnd b cs Q) (node_under q t) (file_under q m) x i (alike q) a e)
     (alike_some (IsEnd b cs Q) (node_under s t) (file_under s m) y j (alike s) c f) differ

@@ -135,10 +135,10 @@ ends_alike volume root n cs h q =
     let root_is : IsAt b cs root r = record {
       even = held.even;
       kind = s0.kind ∙ c.kind;
-      mode = mode_is b root r (r + 32) h.subdirectory.mode reads.0.word (let even = held.even in omega arith);
-      size = λ z. absurd (z h.subdirectory.kind);
-      numbers = λ z. absurd (z h.subdirectory.kind);
-      content = λ z. absurd (z h.subdirectory.kind);
+      mode = mode_is b root r (r + 32) h.directory.mode reads.0.word (let even = held.even in omega arith);
+      size = λ z. absurd (z h.directory.kind);
+      numbers = λ z. absurd (z h.directory.kind);
+      content = λ z. absurd (z h.directory.kind);
     } in
     let ats = files_at b cs (λ _. Unit {0}) at' r (r + 64) n h.well reads.1.1
     (every_all (λ (i : Header). Unit {0}) (λ _. tt) (headers at' r (r + 64) n)) in
@@ -162,8 +162,8 @@ ends_alike volume root n cs h q =
       from = r + 64;
       entries = es;
       is = refl;
-      list = entries_one b r es (s0.kind ∙ c.kind ∙ ap number_of h.subdirectory.kind);
-      known = (root_is, (inr h.subdirectory, inl refl, λ z. absurd (z h.subdirectory.kind)));
+      list = entries_one b r es (s0.kind ∙ c.kind ∙ ap number_of h.directory.kind);
+      known = (root_is, (inr h.directory, inl refl, λ z. absurd (z h.directory.kind)));
       inner = known;
       links = links;
       well = h.well;

@@ -43,7 +43,7 @@ use Rattle.romfs_layout.proofs.Files.{files_at, placed_files, led_by}
 pub record Holds (b : List ℕ) (r : ℕ) (cs : List (List ℕ)) (root : Inode) (n : Names) : Type 0 where
   pub positive : 0 < r
   pub even : r % 16 ≡ 0
-  pub subdirectory : IsDirectory root
+  pub directory : IsDirectory root
   pub well : AreWell cs n
   pub links : AreLinks (files n) n
   pub headers : Every (IsHeader cs) (all_headers r root n)
@@ -107,7 +107,7 @@ is_tree b r cs root n most deepest h few shallow =
     let reads = h.reads in
     let e0 = first_even cs (r + 64) n h.well in
     let s0 = says b r (r + 32) (code_of root) reads.0.word (omega arith) c.small in
-    let kind : type_of b r ≡ 1 = s0.kind ∙ c.kind ∙ ap number_of h.subdirectory.kind in
+    let kind : type_of b r ≡ 1 = s0.kind ∙ c.kind ∙ ap number_of h.directory.kind in
     let first : first_of b r ≡ r = first_some b r kind ∙ says_target b r r reads.0.spec even in
     let heads : heads_itself b r ≡ true = eq-eqb (first_of b r) r first in
     let s1 = says b (r + 32) (first_place (r + 64) n) 0 (reads.1.0.word ∙ omega arith) e0 (omega arith) in
