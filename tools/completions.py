@@ -2,7 +2,8 @@
 """tools/completions.py bash|zsh|fish [PROGRAM]: prints the completion of romtool for a shell.
 
 The subcommands, their words and their options are those that the program's own help shows, so they come from the one table
-in crates/command_line/src/table.rt. The formats and alignments are those that crates/command_line/src/numbers.rt accepts.
+in crates/command_line/src/table.rt. The formats are those that crates/formats/src/format.rt names, and the alignments those that
+crates/command_line/src/numbers.rt accepts.
 """
 
 import os
@@ -13,12 +14,12 @@ from dataclasses import dataclass
 
 TOP = os.path.dirname(os.path.dirname(os.path.realpath(__file__)))
 PROGRAM = f"{TOP}/crates/romtool/out/romtool"
-WORDS = f"{TOP}/crates/command_line/src/numbers.rt"
-# what a word of each name that help shows is completed with: files, directories, nothing, or the words of a function of numbers.rt
+# what a word of each name that help shows is completed with: files, directories, nothing, or the words that a function accepts
 KINDS = {
     "IMAGE": "files", "MANIFEST": "files", "OUT": "files", "DUMP": "files", "FILE": "files", "A": "files", "B": "files",
     "DIR": "directories", "PATH": "nothing", "HEX": "nothing", "ADDRESS": "nothing", "N": "nothing", "NAME": "nothing",
-    "GLOB": "nothing", "UID:GID": "nothing", "FORMAT": "format_named", "[GLOB=]N": "align_named",
+    "GLOB": "nothing", "UID:GID": "nothing", "FORMAT": "formats/src/format.rt named",
+    "[GLOB=]N": "command_line/src/numbers.rt align_named",
 }  # fmt: skip
 
 
@@ -71,10 +72,11 @@ def table(program):
     return options_in(text), [subcommand(program, name, about) for name, about in found if name != "help"]
 
 
-def words_of(function):
-    """Returns the words that a function of numbers.rt accepts."""
-    with open(WORDS, encoding="utf-8") as it:
-        body = re.search(rf"^pub fn {function}\(.*?^}}", it.read(), re.M | re.S)[0]
+def words_of(place):
+    """Returns the words that a function accepts. Its place is its file, below crates/, and its name."""
+    path, function = place.split()
+    with open(f"{TOP}/crates/{path}", encoding="utf-8") as it:
+        body = re.search(rf"^( *)pub fn {function}\(.*?^\1}}", it.read(), re.M | re.S)[0]
     return re.findall(r'^ +b?"([^"]+)" => Some\(', body, re.M)
 
 

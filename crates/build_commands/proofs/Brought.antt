@@ -14,11 +14,11 @@ use Rattle.manifest.specs.declared.line.Word.{Word}
 use Rattle.manifest.specs.declared.line.Word.TheVariants.{Dir, File, Slink, Block, Character, Fifo, Socket, Hard, Same}
 use Rattle.manifest_tree.specs.Names.{Inode}
 use Rattle.manifest_tree.specs.Tree.{inode_by, inode_of, with_contents}
-use Rattle.manifest_layout.specs.Format.{romfs, cramfs}
+use Rattle.formats.specs.Format.{romfs, cramfs}
 use Rattle.manifest_layout.specs.Misfit.{HasBadAttribute}
-use Rattle.plan_types.specs.Formats.{format_of}
-use Rattle.plan_types.specs.declared.format.Format.{Format}
-use Rattle.plan_types.specs.declared.format.Format.TheVariants.{Romfs, Cramfs, CramfsBig}
+use Rattle.formats.specs.Format.{format_of}
+use Rattle.formats.specs.declared.format.Format.{Format}
+use Rattle.formats.specs.declared.format.Format.TheVariants.{Romfs, Cramfs, CramfsBig}
 use Rattle.build_commands.specs.Nearest.{is_runnable, runnable_mode, romfs_mode, in_romfs, in_cramfs, nearest_in}
 use Rattle.build_commands.specs.Nearest.{HasSmallNumbers}
 

@@ -16,7 +16,7 @@ use Rattle.manifest.specs.Entries.{line_of}
 use Rattle.manifest.specs.declared.entry.Entry.{Entry}
 use Rattle.build_commands.specs.Noted.{noted, noted_with}
 use Rattle.build_commands.specs.declared.inventory.NamedFile.{NamedFile}
-use Rattle.plan_types.specs.declared.format.Format.{Format}
+use Rattle.formats.specs.declared.format.Format.{Format}
 
 by_test : (b : Bool) (f g : NamedFile) (rest more : Option NamedFile) (device number : ℕ)
     → more ≡ noted_with f rest device number

@@ -3,3 +3,4 @@ mod Firsts
 mod Flushed
 mod Scans
 pub mod Printed
+mod Capacities

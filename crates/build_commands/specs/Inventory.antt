@@ -6,8 +6,8 @@ use Rattle.manifest.specs.declared.line.Line.{Line}
 use Rattle.manifest.specs.declared.line.Word.{Word}
 use Rattle.manifest.specs.declared.line.Word.TheVariants.{Dir, File, Slink, Block, Character, Fifo}
 use Rattle.manifest.specs.declared.line.Word.TheVariants.{Socket, Hard, Same}
-use Rattle.plan_types.specs.declared.format.Format.{Format}
-use Rattle.plan_types.specs.declared.format.Format.TheVariants.{Cramfs, CramfsBig}
+use Rattle.formats.specs.declared.format.Format.{Format}
+use Rattle.formats.specs.declared.format.Format.TheVariants.{Cramfs, CramfsBig}
 use Rattle.build_commands.specs.Nearest.{is_runnable, nearest_in}
 use Rattle.build_commands.specs.declared.inventory.FileKind.{FileKind}
 use Rattle.build_commands.specs.declared.inventory.FileKind.TheVariants as kind

@@ -5,8 +5,9 @@ use Rattle.manifest.specs.declared.line.Line.{Line}
 use Rattle.manifest.specs.declared.line.Word.{Word}
 use Rattle.manifest.specs.declared.line.Word.TheVariants.{Dir, File, Slink, Block, Character, Fifo}
 use Rattle.manifest.specs.declared.line.Word.TheVariants.{Socket, Hard, Same}
-use Rattle.plan_types.specs.declared.format.Format.{Format}
-use Rattle.plan_types.specs.declared.format.Format.TheVariants.{Romfs, Cramfs, CramfsBig}
+use Rattle.formats.specs.declared.capacity.Capacity.{Capacity}
+use Rattle.formats.specs.declared.format.Format.{Format}
+use Rattle.formats.specs.declared.format.Format.TheVariants.{Romfs, Cramfs, CramfsBig}
 
 -- the owner, the group or others may execute a file of this mode
 abbrev pub is_runnable : ℕ → Bool
@@ -28,6 +29,18 @@ romfs_mode Character mode = 384
 romfs_mode Fifo mode = 420
 romfs_mode Socket mode = 420
 romfs_mode Hard mode = mode
+
+-- the mode that a format has for a line's kind, as far as it has modes
+abbrev pub mode_within : Capacity → Word → ℕ → ℕ
+mode_within most word mode = if most.has_modes then mode else romfs_mode word mode
+
+-- the nearest attributes within what a format can hold
+abbrev pub within : Capacity → Line → Line
+within most l = record l {
+  mode = mode_within most l.word l.mode;
+  uid = min l.uid most.owner;
+  gid = min l.gid most.group;
+}
 
 -- romfs has no owners
 abbrev pub in_romfs : Line → Line

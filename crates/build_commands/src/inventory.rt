@@ -10,8 +10,8 @@ ghost use Rattle.rom_fields.specs.Failures.{Counts, one_more};
 ghost use Rattle.rom_fields.specs.Written.{Puts, WritesText, sink};
 
 use crate::nearest::{is_executable, nearest};
+use formats::Format;
 use manifest::{Entry, Word, put_lines, put_volume};
-use plan_types::Format;
 use rom_fields::{ByteWrite, Failed, OutOfMemory};
 use std::alloc::Global;
 use std::collections::BTreeMap;
@@ -153,7 +153,10 @@ fn found_line<'a>(file: &'a NamedFile) -> Entry<'a>
 fn has_hard_links(format: Option<Format>) -> bool
     ensures { result ≡ has_hard_links format }
 {
-    !matches!(format, Some(Format::Cramfs | Format::CramfsBig))
+    match format {
+        None => true,
+        Some(format) => format.capacity().has_hard_links,
+    }
 }
 
 /// The line of one more name of the file at the path `old`, if the line of the first would be

@@ -11,8 +11,8 @@ ghost use Rattle.manifest.specs.Printed as printed;
 ghost use Rattle.manifest.specs.Printed.{IsVolume, as_read, first_number, manifest_text};
 ghost use Rattle.manifest_layout.specs.Misfit.{HasBadAttribute};
 ghost use Rattle.manifest_tree.specs.Tree.{inode_of};
-ghost use Rattle.plan_types.specs.Formats.{format_of};
-ghost use Rattle.plan_types.specs.declared.format.Format as code;
+ghost use Rattle.formats.specs.Format.{format_of};
+ghost use Rattle.formats.specs.declared.format.Format as code;
 
 /// States that a scan prints a manifest that has exactly one line for each entry, if the grammar
 /// accepts each entry after those before it. States the same for a directory as it is: its manifest

@@ -1,16 +1,10 @@
 //! The nearest attributes that a format can hold.
 ghost use Rattle.std.specs.Prelude.{◌≡◌};
-ghost use Rattle.build_commands.specs.Nearest.{is_runnable, nearest_in, romfs_mode};
+ghost use Rattle.build_commands.specs.Nearest.{is_runnable, mode_within, nearest_in, romfs_mode, within};
 ghost use Rattle.manifest.specs.Entries.{line_of};
 
+use formats::{Capacity, Format};
 use manifest::{Entry, Word};
-use plan_types::Format;
-
-/// The highest owner of cramfs, which keeps 16 bits.
-const MOST_UID: u32 = 65_535;
-
-/// The highest group of cramfs, which keeps 8 bits.
-const MOST_GID: u32 = 255;
 
 /// Returns whether the owner, the group or others may execute a file of this mode.
 pub fn is_executable(mode: u32) -> bool
@@ -33,22 +27,33 @@ fn mode_in_romfs(word: Word, mode: u32) -> u32
     }
 }
 
+/// Returns the mode of a line, as far as the format has modes.
+fn mode_within(most: &Capacity, word: Word, mode: u32) -> u32
+    ensures { result ≡ mode_within most.now word mode }
+{
+    if most.has_modes {
+        mode
+    } else {
+        mode_in_romfs(word, mode)
+    }
+}
+
+/// Returns the line with the nearest mode, owner and group within what a format can hold.
+fn within<'a>(most: &Capacity, line: Entry<'a>) -> Entry<'a>
+    ensures { line_of result ≡ within most.now (line_of line.entry) }
+{
+    Entry {
+        mode: mode_within(most, line.word, line.mode),
+        uid: line.uid.min(most.owner),
+        gid: line.gid.min(most.group),
+        ..line
+    }
+}
+
 /// Returns the line with the nearest mode, owner and group that the format can hold. A `hard` line
 /// has none, and stays. Numbers of devices stay, also if the format cannot hold them.
 pub fn nearest(format: Format, line: Entry<'_>) -> Entry<'_>
     ensures { line_of result ≡ nearest_in format (line_of line.entry) }
 {
-    match format {
-        Format::Romfs => Entry {
-            mode: mode_in_romfs(line.word, line.mode),
-            uid: 0,
-            gid: 0,
-            ..line
-        },
-        Format::Cramfs | Format::CramfsBig => Entry {
-            uid: line.uid.min(MOST_UID),
-            gid: line.gid.min(MOST_GID),
-            ..line
-        },
-    }
+    within(&format.capacity(), line)
 }

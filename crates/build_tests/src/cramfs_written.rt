@@ -1,7 +1,7 @@
 //! The bytes of a cramfs image, in both byte orders.
 ghost use Rattle.std.specs.Prelude.{◌≡◌};
 ghost use Rattle.cramfs_format.specs.declared.order.Order.{Order};
-ghost use Rattle.manifest_layout.specs.Format.{cramfs};
+ghost use Rattle.formats.specs.Format.{cramfs};
 
 use crate::made::{contents_of, has_front, planned};
 use cramfs_write::{stream, write};

@@ -1,6 +1,6 @@
 //! The image of one file, `hello`: written over the bytes of a buffer, and refused as a stream.
 ghost use Rattle.std.specs.Prelude.{◌≡◌};
-ghost use Rattle.manifest_layout.specs.Format.{romfs};
+ghost use Rattle.formats.specs.Format.{romfs};
 
 use crate::made::{contents_of, has_front, planned};
 use layout_plan::Slices;

@@ -1,6 +1,6 @@
 //! Contents, plans and images of manifests, for the tests.
 ghost use Rattle.std.specs.Prelude.{◌≡◌, IfOk};
-ghost use Rattle.plan_types.specs.Formats.{format_of};
+ghost use Rattle.formats.specs.Format.{format_of};
 
 use image_build::{
     BuildError, Contents, Format, Plan, build_cramfs, build_cramfs_big, build_romfs, plan,

@@ -1,6 +1,6 @@
 //! The bytes of a romfs image.
 ghost use Rattle.std.specs.Prelude.{◌≡◌};
-ghost use Rattle.manifest_layout.specs.Format.{romfs};
+ghost use Rattle.formats.specs.Format.{romfs};
 
 use crate::made::{contents_of, has_front, planned};
 use layout_plan::Slices;

@@ -1,20 +1,12 @@
--- The values of single words: formats, alignments, addresses, numbers of bytes, owners. (This
+-- The values of single words: alignments, addresses, numbers of bytes, owners. (This
 -- project's own.)
 use Rattle.std.specs.Prelude.{◌≡◌, ◌*◌, ℕ, List, [], ◌∷◌, ◌++◌, codes, find, drop, true}
 use Rattle.std.specs.Prelude.{Option, Some, None, option_map, ◌==◌, if◌then◌else◌}
 use Rattle.std.specs.List.{starts_with}
 use Rattle.std.specs.Str.Parse.{IsNumeral, digits_value}
 use Rattle.std.specs.Str.{bytes_eq}
-use Rattle.plan_types.specs.declared.format.Format.{Format}
-use Rattle.plan_types.specs.declared.format.Format.TheVariants.{Romfs, Cramfs, CramfsBig}
 use Rattle.command_line.specs.declared.request.AlignRule.{AlignRule}
 use Rattle.command_line.specs.declared.request.Owner.{Owner}
-
--- the word of a format
-abbrev pub format_word : Format → List ℕ
-format_word Romfs = codes "romfs"
-format_word Cramfs = codes "cramfs"
-format_word CramfsBig = codes "cramfs-be"
 
 -- the words of the alignments that a manifest may have
 abbrev pub align_words : List (List ℕ × ℕ)

@@ -2,23 +2,22 @@
 ghost use Rattle.std.specs.Prelude.{◌≡◌, ◌≢◌, IfNone, IfOk, IfSome, Some, codes, map, option_map};
 ghost use Rattle.clap.specs.Words.{all_of, first_of, found_of, rows_of};
 ghost use Rattle.command_line.specs.Numbers.{AreAddresses, AreAligns, IsAddress, IsBaseOf};
-ghost use Rattle.command_line.specs.Numbers.{IsOptional, IsSize, NotesAlign, format_word};
+ghost use Rattle.formats.specs.Format.{name_of};
+ghost use Rattle.command_line.specs.Numbers.{IsOptional, IsSize, NotesAlign};
 ghost use Rattle.command_line.specs.Words.{AreTexts, HasNoValueForAll, IsAskedBy, IsFlag, IsForm};
 ghost use Rattle.command_line.specs.Words.{IsOffsetOf, IsOwnerOf, IsPlainScan, texts_or_none};
 ghost use Rattle.command_line.specs.Words.{word_of};
 ghost use Rattle.command_line.specs.declared.request.Request.TheVariants as request;
 
 use crate::error::{WordsError, Wrong};
-use crate::numbers::{
-    address_named, align_named, align_rule_named, format_named, owner_named, size_named,
-};
+use crate::numbers::{address_named, align_named, align_rule_named, owner_named, size_named};
 use crate::request::{
     AlignRule, Build, Cat, Diff, Digest, Extract, Info, Linux, Map, MapForm, Owner, Request, Scan,
     ScanAll, Verify, Which,
 };
 use arrayvec::ArrayVec;
 use clap::ArgMatches;
-use plan_types::Format;
+use formats::Format;
 use std::alloc::{AllocError, Global};
 
 /// The alignment of regular files without an option, in bytes.
@@ -232,9 +231,9 @@ fn linux_of<'a>(values: &ArgMatches<'a>) -> Result<Linux<'a>, WordsError<'a>>
 
 /// Returns the format that a word names.
 fn format<'a>(word: &'a str) -> Result<Format, WordsError<'a>>
-    ensures { IfOk result (λ f. word.now ≡ format_word f) }
+    ensures { IfOk result (λ f. word.now ≡ name_of f) }
 {
-    match format_named(word) {
+    match Format::named(word) {
         Some(format) => Ok(format),
         None => Err(Wrong::Format(word).into()),
     }
@@ -263,7 +262,7 @@ fn build_of<'a>(values: &ArgMatches<'a>) -> Result<Build<'a>, WordsError<'a>>
 /// Returns the format that a manifest has to fit, if one is named.
 fn wished_format<'a>(values: &ArgMatches<'a>) -> Result<Option<Format>, WordsError<'a>>
     ensures { IfOk result (λ f. first_of (codes "for") (rows_of (found_of values.now))
-        ≡ option_map format_word f) }
+        ≡ option_map name_of f) }
 {
     match value_of(values, "for") {
         None => Ok(None),

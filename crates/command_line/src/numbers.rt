@@ -1,25 +1,10 @@
-//! The values that single words name: formats, alignments, addresses, sizes and owners.
+//! The values that single words name: alignments, addresses, sizes and owners.
 ghost use Rattle.std.specs.Prelude.{◌≡◌, ◌≢◌, ◌≤◌, IfNone, IfSome, Some};
-ghost use Rattle.plan_types.specs.declared.format.Format.{Format};
 ghost use Rattle.command_line.specs.Numbers.{IsAddress, IsAlignRule, IsNumber, IsOwner, IsSize};
-ghost use Rattle.command_line.specs.Numbers.{align_named, format_word};
+ghost use Rattle.command_line.specs.Numbers.{align_named};
 
 use crate::request::{AlignRule, Owner};
 use memchr::{memchr, memrchr};
-use plan_types::Format;
-
-/// Returns the format that a word names.
-pub fn format_named(word: &str) -> Option<Format>
-    ensures some { IfSome result (λ f. word.now ≡ format_word f) }
-    ensures none { IfNone result ((f : Format) → word.now ≢ format_word f) }
-{
-    match word {
-        "romfs" => Some(Format::Romfs),
-        "cramfs" => Some(Format::Cramfs),
-        "cramfs-be" => Some(Format::CramfsBig),
-        _ => None,
-    }
-}
 
 /// Returns the alignment that bytes name: a power of two that a manifest may have.
 pub fn align_named(word: &[u8]) -> Option<u32>

@@ -1,6 +1,6 @@
 //! What the words of a command line ask for.
 use arrayvec::ArrayVec;
-use plan_types::Format;
+use formats::Format;
 
 /// What the words ask for.
 #[derive(Drop)]

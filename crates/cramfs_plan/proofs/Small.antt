@@ -11,7 +11,7 @@ use Rattle.cramfs_format.specs.declared.order.Order.TheVariants.{Little, Big}
 use Rattle.cramfs_format.specs.Inode.{block_count}
 use Rattle.rom_fields.specs.Padding.{pad}
 use Rattle.manifest_tree.specs.Names.{Fill, no_bytes, text, source, Inode, Names, nothing, leaf, link, subdirectory}
-use Rattle.manifest_layout.specs.Format.{cramfs}
+use Rattle.formats.specs.Format.{cramfs}
 use Rattle.cramfs_format.specs.Order.{packed}
 use Rattle.cramfs_layout.specs.Layout.{type_bits, pad4, size_by, entry_len, list_len, State, Table, Kept, nowhere}
 use Rattle.cramfs_layout.specs.Layout.{shared, fresh, kept, data_of, with_table, table_by, after_by, after_file}

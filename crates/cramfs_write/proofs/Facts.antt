@@ -9,7 +9,7 @@ use Rattle.cramfs_layout.specs.Layout.{first_state}
 use Rattle.cramfs_layout.specs.Items.{AreAlignedBy, entries, below, items_of, sections_from}
 use Rattle.cramfs_layout.specs.Planned.{IsPlanned}
 use Rattle.cramfs_layout.proofs.Sectioned.{rise}
-use Rattle.manifest_layout.specs.Format.{Format, cramfs}
+use Rattle.formats.specs.Format.{Format, cramfs}
 use Rattle.manifest_layout.specs.Misfit.{HasNoMisfit}
 use Rattle.manifest_layout.proofs.Sourced.{align_of, sourced}
 use Rattle.plan_types.specs.Plans.{Planned, IsPlan, IsPlanOf}

@@ -15,7 +15,8 @@ use Rattle.layout_terms.specs.Bodies.{item_at}
 use Rattle.manifest.specs.Grammar.{IsManifest}
 use Rattle.manifest.specs.Lines.{ManifestLines}
 use Rattle.manifest_tree.specs.Tree.{tree_of, root_of}
-use Rattle.manifest_layout.specs.Format.{cramfs, layout_of}
+use Rattle.formats.specs.Format.{cramfs}
+use Rattle.manifest_layout.specs.Format.{layout_of}
 use Rattle.manifest_layout.proofs.Sourced.{align_of, sourced}
 use Rattle.cramfs_layout.specs.Layout.{State, first_state, after_file, after_list, after_names, pad4, entry_len}
 use Rattle.cramfs_layout.specs.Layout.{entry_bytes, count, size_of, superblock, with_crc}

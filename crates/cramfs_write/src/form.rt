@@ -7,7 +7,7 @@ ghost use Rattle.cramfs_layout.specs.Composed.{written, table};
 ghost use Rattle.cramfs_layout.specs.Layout.{entry_len};
 ghost use Rattle.image_stream.specs.Segments.{fixed};
 ghost use Rattle.layout_terms.specs.Items.{section, super};
-ghost use Rattle.manifest_layout.specs.Format.{cramfs};
+ghost use Rattle.formats.specs.Format.{cramfs};
 ghost use Rattle.manifest_tree.specs.Names.{bytes_of};
 ghost use Rattle.plan_types.specs.Views.{fill_view, item_view, section_view};
 ghost use Rattle.cramfs_write.specs.Form.{form_of, segment_of};
@@ -16,7 +16,7 @@ ghost use Rattle.cramfs_write.specs.Known.{IsBody, IsCramfsPlan};
 use crate::record::{put_inode, put_pointers, put_superblock};
 use cramfs_format::Order;
 use image_stream::{Outline, Segmented};
-use plan_types::{Body, Fill, Format, Item, Plan, Section};
+use plan_types::{Body, Fill, Item, Plan, Section};
 
 /// The plan of a cramfs image.
 #[derive(Clone, Copy)]
@@ -41,10 +41,10 @@ pub fn order_of(plan: &Plan) -> Order
     requires { (o : Order) × (plan.now.format ≡ cramfs o) }
     ensures { plan.now.format ≡ cramfs result }
 {
-    match plan.format() {
-        Format::Romfs | Format::Cramfs => Order::Little,
-        Format::CramfsBig => Order::Big,
-    }
+    let Some(order) = plan.format().order() else {
+        unreachable!();
+    };
+    order
 }
 
 /// Fills `out` with the bytes from `from` on of an item's inode.

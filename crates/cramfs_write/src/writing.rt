@@ -6,7 +6,8 @@ ghost use Rattle.image_stream.specs.Outcomes.{AreSized, IsLeastWrong, IsStreamFa
 ghost use Rattle.image_stream.specs.Sources.{IfKnown};
 ghost use Rattle.manifest.specs.Grammar.{IsManifest};
 ghost use Rattle.manifest.specs.Lines.{ManifestLines};
-ghost use Rattle.manifest_layout.specs.Format.{cramfs, layout_of};
+ghost use Rattle.formats.specs.Format.{cramfs};
+ghost use Rattle.manifest_layout.specs.Format.{layout_of};
 ghost use Rattle.plan_types.specs.Plans.{IsPlanOf};
 ghost use Rattle.rom_fields.specs.Written.{AppendsPrefix};
 ghost use Rattle.std.specs.Io.KnownBytes.{Appends};

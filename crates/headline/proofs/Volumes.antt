@@ -12,7 +12,8 @@ use Rattle.image_check.specs.declared.any.AnyImage.{AnyImage}
 use Rattle.image_check.specs.declared.any.AnyImage.TheVariants.{Romfs, Cramfs}
 use Rattle.image_check.proofs.Formats.{apart, cramfs_begins, romfs_begins}
 use Rattle.image_info.specs.Volumes.{cramfs_volume, volume_of}
-use Rattle.manifest_layout.specs.Format.{Format, HasUsualTree, romfs, cramfs}
+use Rattle.formats.specs.Format.{Format, romfs, cramfs}
+use Rattle.manifest_layout.specs.Format.{HasUsualTree}
 use Rattle.manifest_layout.specs.Placement.{HasVolume}
 
 shown_bytes : (bytes : List ℕ) (limits : Limits) (m : Image) (report : Report) → Shows bytes limits m report

@@ -41,7 +41,7 @@ ghost use Rattle.manifest.specs.Printed.{manifest_text};
 ghost use Rattle.layout_terms.specs.Placement.{IsRun};
 ghost use Rattle.manifest.specs.Grammar.{manifest_of};
 ghost use Rattle.manifest.specs.Lines.{ManifestLines};
-ghost use Rattle.manifest_layout.specs.Format.{Format};
+ghost use Rattle.formats.specs.Format.{Format};
 ghost use Rattle.manifest_layout.specs.Placement.{CopiesStand, HasVolume, IsPlaced};
 ghost use Rattle.open_files.specs.Calls.{Of, Lent};
 ghost use Rattle.open_files.specs.Machine.{Open, image_calls, open_at};

@@ -9,7 +9,7 @@ ghost use Rattle.image_info.specs.Volumes.{volume_of};
 ghost use Rattle.image_stream.specs.Outcomes.{IsWritten};
 ghost use Rattle.manifest.specs.Grammar.{manifest_of};
 ghost use Rattle.manifest.specs.Lines.{ManifestLines};
-ghost use Rattle.manifest_layout.specs.Format.{Format};
+ghost use Rattle.formats.specs.Format.{Format};
 ghost use Rattle.plan_types.specs.Plans.{Planned};
 ghost use Rattle.rom_tree.specs.declared.types.Limits.{Limits};
 

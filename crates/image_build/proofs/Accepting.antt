@@ -8,7 +8,7 @@ use Rattle.manifest_tree.specs.Meant.{IsMeant}
 use Rattle.manifest_tree.specs.Names.{Inode, Names}
 use Rattle.manifest_tree.specs.Shape.{HasShape}
 use Rattle.manifest_tree.specs.Tree.{tree_of, root_of}
-use Rattle.manifest_layout.specs.Format.{Format, romfs, cramfs}
+use Rattle.formats.specs.Format.{Format, romfs, cramfs}
 use Rattle.manifest_layout.specs.Misfit.{HasNoMisfit}
 use Rattle.image_check.specs.Checked.{HasTree}
 use Rattle.image_stream.specs.Sources.{content_of}

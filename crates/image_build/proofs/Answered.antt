@@ -4,7 +4,8 @@ use Rattle.std.proofs.Common.{Option, Some, None, MatchOption}
 use Rattle.std.proofs.lemmas.Bool.Decides.{eqb_tells}
 use Rattle.manifest.specs.Grammar.{Fault, manifest_of, IsManifest}
 use Rattle.manifest.specs.Lines.{ManifestLines, sources_of}
-use Rattle.manifest_layout.specs.Format.{Format, HasUsualTree, layout_of}
+use Rattle.formats.specs.Format.{Format}
+use Rattle.manifest_layout.specs.Format.{HasUsualTree, layout_of}
 use Rattle.manifest_layout.specs.Misfit.{HasNoMisfit, IsLeastMisfit}
 use Rattle.manifest_tree.specs.Meant.{IsMeant}
 use Rattle.rom_faults.specs.declared.fault.Fault as misfit

@@ -7,7 +7,8 @@ use Rattle.manifest_tree.specs.Names.{Inode, Names}
 use Rattle.manifest_tree.specs.Shape.{with_names}
 use Rattle.manifest_tree.specs.Tree.{tree_of, root_of}
 use Rattle.layout_terms.specs.Placement.{AreInRuns}
-use Rattle.manifest_layout.specs.Format.{Format, HasUsualTree, romfs, cramfs}
+use Rattle.formats.specs.Format.{Format, romfs, cramfs}
+use Rattle.manifest_layout.specs.Format.{HasUsualTree}
 use Rattle.manifest_layout.specs.Placement.{CopiesStand, HasVolume, IsPlaced}
 use Rattle.manifest_layout.proofs.Placing.{files_apart, placed}
 use Rattle.image_check.specs.Checked.{HasTree}

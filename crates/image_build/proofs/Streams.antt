@@ -10,11 +10,12 @@ use Rattle.cramfs_format.specs.declared.order.Order.TheVariants.{Little, Big}
 use Rattle.plan_types.specs.Plans.{Planned, IsPlanOf}
 use Rattle.manifest.specs.Grammar.{IsManifest}
 use Rattle.manifest.specs.Lines.{ManifestLines}
-use Rattle.manifest_layout.specs.Format.{Format, cramfs, layout_of}
+use Rattle.formats.specs.Format.{Format, cramfs}
+use Rattle.manifest_layout.specs.Format.{layout_of}
 use Rattle.manifest_layout.specs.Misfit.{HasNoMisfit}
-use Rattle.plan_types.specs.Formats.{format_of}
-use Rattle.plan_types.specs.declared.format.Format as code
-use Rattle.plan_types.specs.declared.format.Format.TheVariants.{Cramfs, CramfsBig}
+use Rattle.formats.specs.Format.{format_of}
+use Rattle.formats.specs.declared.format.Format as code
+use Rattle.formats.specs.declared.format.Format.TheVariants.{Cramfs, CramfsBig}
 use Rattle.image_stream.proofs.Results.{ok_weaker, err_weaker}
 use Rattle.image_build.specs.Builds.{Builds, IsGiven}
 use Rattle.image_build.specs.Streamed.{IsPlanOfText}

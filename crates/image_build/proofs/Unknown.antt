@@ -11,7 +11,8 @@ use Rattle.layout_terms.specs.Items.{Item, Section, Body, super, record_of, tabl
 use Rattle.cramfs_layout.specs.Layout as cramfs_layout
 use Rattle.cramfs_layout.specs.Items as cramfs_items
 use Rattle.romfs_layout.specs.Layout as romfs_layout
-use Rattle.manifest_layout.specs.Format.{Format, romfs, cramfs, layout_of, sections_of}
+use Rattle.formats.specs.Format.{Format, romfs, cramfs}
+use Rattle.manifest_layout.specs.Format.{layout_of, sections_of}
 use Rattle.image_stream.specs.Segments.{Segment, fixed, content, Form, IsLaidOut, image_from, image_of, checked}
 use Rattle.image_stream.specs.WordSums.{balance_of}
 use Rattle.plan_types.specs.Plans.{Planned, IsPlanOf}

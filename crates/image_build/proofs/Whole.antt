@@ -4,7 +4,8 @@ use Rattle.image_check.specs.Checked.{HasTree, IsRefused}
 use Rattle.manifest.specs.Grammar.{IsManifest, manifest_of}
 use Rattle.manifest.specs.Lines.{ManifestLines}
 use Rattle.manifest_layout.specs.Format as of_format
-use Rattle.manifest_layout.specs.Format.{Format, romfs, cramfs, layout_of}
+use Rattle.formats.specs.Format.{Format, romfs, cramfs}
+use Rattle.manifest_layout.specs.Format.{layout_of}
 use Rattle.manifest_layout.specs.Misfit.{HasNoMisfit}
 use Rattle.manifest_layout.specs.Placement.{CopiesStand, HasVolume, IsPlaced}
 use Rattle.manifest_tree.specs.Meant.{IsMeant}

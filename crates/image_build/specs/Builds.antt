@@ -7,7 +7,8 @@ use Rattle.manifest.specs.Grammar.{manifest_of}
 use Rattle.manifest.specs.Lines.{ManifestLines, sources_of}
 use Rattle.manifest.specs.declared.error.ManifestError.{ManifestError}
 use Rattle.manifest.specs.declared.error.ManifestError.TheVariants as manifest
-use Rattle.manifest_layout.specs.Format.{Format, HasUsualTree, layout_of}
+use Rattle.formats.specs.Format.{Format}
+use Rattle.manifest_layout.specs.Format.{HasUsualTree, layout_of}
 use Rattle.manifest_layout.specs.Misfit.{HasNoMisfit, IsLeastMisfit}
 use Rattle.manifest_tree.specs.Meant.{IsMeant}
 use Rattle.rom_tree.specs.Tree.{Node}

@@ -12,7 +12,7 @@ use Rattle.image_stream.specs.WordSums.{balance_of}
 use Rattle.plan_types.specs.Plans.{Planned, IsPlanOf}
 use Rattle.manifest.specs.Grammar.{manifest_of}
 use Rattle.manifest.specs.Lines.{ManifestLines, sources_of, is_same}
-use Rattle.manifest_layout.specs.Format.{Format, romfs, cramfs}
+use Rattle.formats.specs.Format.{Format, romfs, cramfs}
 use Rattle.romfs_write.specs.Form as in_romfs
 use Rattle.image_build.specs.Builds.{Builds}
 

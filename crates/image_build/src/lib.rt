@@ -9,11 +9,9 @@
 mod build;
 mod error;
 pub mod laws;
-mod streaming;
 
-pub use build::{build_cramfs, build_cramfs_big, build_romfs};
+pub use build::{build_cramfs, build_cramfs_big, build_romfs, stream, stream_through};
 pub use error::BuildError;
 pub use image_stream::StreamError;
 pub use layout_plan::{Format, Plan, PlanError, Slices, SourceFailed, Sources, plan};
 pub use rom_fields::Contents;
-pub use streaming::{stream, stream_through};

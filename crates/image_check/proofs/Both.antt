@@ -12,7 +12,8 @@ use Rattle.cramfs_format.specs.Tree.{CramfsTree}
 use Rattle.cramfs_format.specs.Faults.{HasNoFault as HasNoCramfsFault}
 use Rattle.cramfs_format.proofs.Begins.{tree_order}
 use Rattle.cramfs_image.specs.Checked.{Shows as CramfsShows, IsLeastAnswer as IsLeastCramfsAnswer}
-use Rattle.image_check.specs.Checked.{BeginsRomfs, BeginsCramfs, HasTree, IsFaultless, no_romfs_fault, no_cramfs_fault}
+use Rattle.formats.specs.Begins.{BeginsRomfs, BeginsCramfs}
+use Rattle.image_check.specs.Checked.{HasTree, IsFaultless, no_romfs_fault, no_cramfs_fault}
 use Rattle.image_check.specs.Checked.{IsLeastFaultUnder, least_of_romfs, least_of_cramfs, of_neither, neither, Shows}
 use Rattle.image_check.specs.Checked.{romfs, cramfs}
 use Rattle.image_check.proofs.Formats.{romfs_begins, cramfs_begins}

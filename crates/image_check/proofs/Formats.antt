@@ -1,5 +1,5 @@
 -- No bytes begin as an image of both formats, and what follows for the answers.
-use Rattle.std.proofs.Common.{◌≡◌, ◌≢◌, ℕ, subst, ◌≤◌, List, [], ◌∷◌, length, inl, inr, arith}
+use Rattle.std.proofs.Common.{◌≡◌, ◌≢◌, ◌⊎◌, ℕ, subst, ◌≤◌, List, [], ◌∷◌, length, inl, inr, arith}
 use Rattle.rom_fields.specs.Words.{word_be, word_le}
 use Rattle.rom_tree.specs.Tree.{Node}
 use Rattle.rom_tree.specs.declared.types.Limits.{Limits}
@@ -14,7 +14,11 @@ use Rattle.cramfs_format.specs.Order.{word}
 use Rattle.cramfs_format.proofs.Begins.{order_is}
 use Rattle.cramfs_format.specs.Superblock.{magic as cramfs_magic, order_of}
 use Rattle.cramfs_format.specs.Tree.{CramfsTree}
-use Rattle.image_check.specs.Checked.{BeginsRomfs, BeginsCramfs, HasTree, IsRefused}
+use Rattle.formats.specs.Begins.{Begins, BeginsRomfs, BeginsCramfs}
+use Rattle.formats.specs.Format.{format_of}
+use Rattle.formats.specs.declared.format.Format as code
+use Rattle.formats.specs.declared.format.Format.TheVariants as of_code
+use Rattle.image_check.specs.Checked.{HasTree, IsRefused}
 
 -- the word of four bytes
 little_front : (a b c d : ℕ) (rest : List ℕ) → a ≡ 45 → b ≡ 114 → c ≡ 111 → d ≡ 109
@@ -83,3 +87,14 @@ refused_cramfs all limits (Fault number at) h r =
 pub no_tree : (all : List ℕ) (limits : Limits) → (BeginsRomfs all → ⊥) → (BeginsCramfs all → ⊥) → (t : Node)
     → HasTree all limits t → ⊥
 no_tree all limits h k t x = elim x [ inl y ↦ h (romfs_begins y) | inr y ↦ k (cramfs_begins y.1) ]
+
+-- the first bytes of a format of the code
+pub begins_romfs : (f : code.Format) (all : List ℕ) → f ≡ of_code.Romfs → Begins (format_of f) all → BeginsRomfs all
+begins_romfs f all e h = subst (λ (g : code.Format). Begins (format_of g) all) e h
+
+pub begins_cramfs : (f : code.Format) (all : List ℕ) → (f ≡ of_code.Cramfs) ⊎ (f ≡ of_code.CramfsBig)
+    → Begins (format_of f) all → BeginsCramfs all
+begins_cramfs f all e h = elim e [
+  | inl k ↦ (subst (λ (g : code.Format). Begins (format_of g) all) k h).0
+  | inr k ↦ (subst (λ (g : code.Format). Begins (format_of g) all) k h).0
+]

@@ -8,7 +8,7 @@ use Rattle.cramfs_format.specs.declared.order.Order.{Order}
 use Rattle.cramfs_format.specs.declared.order.Order.TheVariants.{Little, Big}
 use Rattle.cramfs_format.specs.Order.{word}
 use Rattle.cramfs_format.specs.Superblock.{magic, order_of}
-use Rattle.image_check.specs.Checked.{BeginsRomfs, BeginsCramfs}
+use Rattle.formats.specs.Begins.{BeginsRomfs, BeginsCramfs}
 
 -- four bytes are enough for the first word
 first_be : (m : ℕ) (xs : List ℕ) → word_be (take (suc (suc (suc (suc m)))) xs) 0 ≡ word_be xs 0

@@ -8,9 +8,9 @@ use Rattle.rom_faults.specs.declared.error.CheckError.TheVariants.{Fault}
 use Rattle.cramfs_format.specs.declared.order.Order.{Order}
 use Rattle.cramfs_format.specs.Superblock.{order_of, has_crc, size_word, accessible_size}
 use Rattle.romfs_format.specs.Tree.{full_size}
-use Rattle.image_check.specs.Checked.{BeginsRomfs, BeginsCramfs}
+use Rattle.formats.specs.Begins.{BeginsRomfs, BeginsCramfs}
 use Rattle.image_check.proofs.Formats.{apart}
-use Rattle.image_check.specs.Reach.{Reaches, short, romfs, cramfs, neither, size_in}
+use Rattle.formats.specs.Reach.{Reaches, short, romfs, cramfs, neither, size_in}
 use Rattle.image_check.proofs.Fronts.{front_be, front_word, front_order, front_long, front_short, front_test}
 use Rattle.image_check.proofs.Fronts.{front_romfs, front_cramfs}
 use Rattle.image_check.proofs.Romfs as of_romfs

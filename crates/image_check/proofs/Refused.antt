@@ -11,7 +11,7 @@ use Rattle.romfs_format.specs.Faults.{whole}
 use Rattle.romfs_format.specs.Tree.{full_size}
 use Rattle.image_check.specs.Checked.{HasTree, IsLeastFaultUnder, least_of_romfs}
 use Rattle.image_check.proofs.Formats.{apart}
-use Rattle.image_check.specs.Reach.{IsSumRefused}
+use Rattle.formats.specs.Reach.{IsSumRefused}
 use Rattle.image_check.proofs.Fronts.{front_be, front_romfs}
 
 -- the size is that of the whole

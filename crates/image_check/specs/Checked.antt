@@ -1,10 +1,10 @@
--- `BeginsRomfs`, `BeginsCramfs`: the bytes begin as romfs, or as cramfs in a byte order. `HasTree`:
--- a tree that one of the formats defines for the bytes. `Shows`: an image value shows this tree.
--- `IsRefused`: the meaning of a refusal: neither format defines one. `HasFormat`: the value is of
--- the format that the first bytes name, and in their byte order. `neither`: the answer to bytes of
--- no format. `IsFaultless`, `IsLeastFaultUnder`: the bytes have no fault of the format with which
--- they begin, or this fault as their least. (This project's own.)
-use Rattle.std.specs.Prelude.{◌≡◌, ℕ, ◌≤◌, ◌⊎◌, List, length, take, if◌then◌else◌, nat_lt}
+-- `HasTree`: a tree that one of the formats defines for the bytes. `Shows`: an image value shows
+-- this tree. `IsRefused`: the meaning of a refusal: neither format defines one. `HasFormat`: the
+-- value is of the format that the first bytes name, and in their byte order. `neither`: the answer
+-- to bytes of no format. `IsFaultless`, `IsLeastFaultUnder`: the bytes have no fault of the format
+-- with which they begin, or this fault as their least. (This project's own.)
+use Rattle.std.specs.Prelude.{◌≡◌, ℕ, ◌⊎◌, List, length, if◌then◌else◌, nat_lt}
+use Rattle.formats.specs.Begins.{BeginsRomfs, BeginsCramfs}
 use Rattle.rom_tree.specs.Tree.{Node}
 use Rattle.rom_tree.specs.Image.{Image}
 use Rattle.rom_tree.specs.declared.types.Limits.{Limits}
@@ -12,26 +12,17 @@ use Rattle.rom_tree.specs.declared.types.Report.{Report}
 use Rattle.rom_faults.specs.declared.error.CheckError.{CheckError}
 use Rattle.rom_faults.specs.declared.error.CheckError.TheVariants.{Fault}
 use Rattle.rom_tree.specs.Checks.{Refuses}
-use Rattle.romfs_format.specs.Tree.{RomfsTree, magic as romfs_magic}
+use Rattle.romfs_format.specs.Tree.{RomfsTree}
 use Rattle.romfs_format.specs.Faults.{HasNoFault as HasNoRomfsFault}
 use Rattle.romfs_image.specs.Checked.{Shows as RomfsShows, IsLeastAnswer as IsLeastRomfsAnswer}
 use Rattle.cramfs_format.specs.declared.order.Order.{Order}
-use Rattle.cramfs_format.specs.Order.{word}
-use Rattle.cramfs_format.specs.Superblock.{magic as cramfs_magic, order_of}
+use Rattle.cramfs_format.specs.Superblock.{order_of}
 use Rattle.cramfs_format.specs.Tree.{CramfsTree}
 use Rattle.cramfs_format.specs.Faults.{HasNoFault as HasNoCramfsFault}
 use Rattle.cramfs_image.specs.Checked.{Shows as CramfsShows, IsLeastAnswer as IsLeastCramfsAnswer}
 use Rattle.cramfs_image.specs.Reported.{order_in}
 use Rattle.image_check.specs.declared.any.AnyImage.{AnyImage}
 use Rattle.image_check.specs.declared.any.AnyImage.TheVariants.{Romfs, Cramfs}
-
--- the bytes begin with `-rom1fs-`
-abbrev pub BeginsRomfs : List ℕ → Type 0
-BeginsRomfs all = take 8 all ≡ romfs_magic
-
--- the first word is 28cd3d45 (hexadecimal), in one of the byte orders
-abbrev pub BeginsCramfs : List ℕ → Type 0
-BeginsCramfs all = (4 ≤ length all) × (word (order_of all) all 0 ≡ cramfs_magic)
 
 -- t is the tree that one of the formats defines for these bytes, under these limits
 abbrev pub HasTree : List ℕ → Limits → Node → Type 0

@@ -1,4 +1,3 @@
 pub mod Any
 pub mod Checked
 pub mod Parts
-pub mod Reach

@@ -9,7 +9,7 @@ use Rattle.romfs_image.specs.Parts.{AreParts as AreRomfsParts, tree_of_parts as 
 use Rattle.romfs_image.specs.Parts.{cursors_of_parts as romfs_cursors}
 use Rattle.cramfs_image.specs.Parts.{AreParts as AreCramfsParts, tree_of_parts as cramfs_tree}
 use Rattle.cramfs_image.specs.Parts.{cursors_of_parts as cramfs_cursors}
-use Rattle.image_check.specs.Checked.{BeginsRomfs, BeginsCramfs}
+use Rattle.formats.specs.Begins.{BeginsRomfs, BeginsCramfs}
 use Rattle.image_check.specs.declared.any.Parts.{Parts}
 use Rattle.image_check.specs.declared.any.Parts.TheVariants.{Romfs, Cramfs}
 

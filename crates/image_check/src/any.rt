@@ -2,8 +2,11 @@
 ghost use Rattle.std.specs.Prelude.{◌≡◌};
 ghost use Rattle.image_check.specs.Any.{any_view, report_of};
 
+use cramfs_format::superblock::accessible_size;
 use cramfs_image::{Cramfs, Parts as CramfsParts};
+use formats::Format;
 use rom_tree::{Cursor, Entry, NodeId, Report, Run, Stat, TreeImage, Viewed};
+use romfs_format::superblock::stated_size;
 use romfs_image::{Parts as RomfsParts, Romfs};
 
 /// A checked image of one of the two formats.
@@ -104,9 +107,34 @@ impl<'a> TreeImage<'a> for AnyImage<'a> {
 
 impl<'a> AnyImage<'a> {
     ghost use Rattle.std.specs.Prelude.{ℕ, List};
+    ghost use Rattle.formats.specs.Begins.{Begins};
+    ghost use Rattle.formats.specs.Format.{format_of};
+    ghost use Rattle.image_check.specs.Any.{image_format, size_of};
     ghost use Rattle.image_check.specs.Checked.{HasFormat};
     ghost use Rattle.image_check.specs.Parts.{AreParts, NameFormat, tree_of_parts};
     ghost use Rattle.image_check.specs.Parts.{cursors_of_parts, report_of_parts};
+
+    /// Returns the format of the image.
+    pub fn format(&self) -> Format
+        ensures is { result ≡ image_format self.now }
+        ensures begins { (all : List ℕ) → HasFormat all self.now → Begins (format_of result) all }
+    {
+        match self {
+            AnyImage::Romfs(_) => Format::Romfs,
+            AnyImage::Cramfs(image) => Format::of_order(image.parts().order),
+        }
+    }
+
+    /// Returns the number of accessible bytes of the image: the size that its superblock states, or
+    /// of a cramfs image that states none, the number of its bytes, up to 2^28.
+    pub fn size(&self) -> u32
+        ensures { result ≡ size_of self.now }
+    {
+        match self {
+            AnyImage::Romfs(image) => stated_size(image.bytes()),
+            AnyImage::Cramfs(image) => accessible_size(image.parts().order, image.bytes()),
+        }
+    }
 
     /// Returns its numbers, by which `again` makes an image of the same bytes.
     pub fn parts(&self) -> Parts

@@ -1,33 +1,29 @@
 //! The check of an image of romfs, or of cramfs in either byte order.
 ghost use Rattle.std.specs.Prelude.{◌≡◌, ◌≤◌, IfOk, IfErr, Err};
-ghost use Rattle.std.specs.Bool.{OnTrue, OnFalse};
 ghost use Rattle.rom_tree.specs.Tree.{IsShallow};
 ghost use Rattle.image_check.specs.Any.{any_view, report_of};
-ghost use Rattle.image_check.specs.Checked.{Shows, IsRefused, BeginsRomfs, BeginsCramfs, HasFormat};
+ghost use Rattle.formats.specs.Begins.{BeginsRomfs, BeginsCramfs};
+ghost use Rattle.image_check.specs.Checked.{Shows, IsRefused, HasFormat};
 ghost use Rattle.image_check.specs.Checked.{IsFaultless, IsLeastFaultUnder, neither};
 
 use crate::any::AnyImage;
-use cramfs_format::superblock::order_in;
 use cramfs_image::Cramfs;
+use formats::Format;
 use rom_faults::CheckError;
 use rom_faults::fault::{MAGIC, SHORT};
 use rom_tree::Limits;
-use romfs_format::superblock::begins;
 use romfs_image::Romfs;
 use std::alloc::Global;
 
 /// The least number of bytes that can name a format.
 const SHORTEST: usize = 8;
 
-/// Whether the bytes begin as a cramfs image does, in either byte order.
-fn is_cramfs(bytes: &[u8]) -> bool
-    ensures begins { OnTrue result (BeginsCramfs bytes.now) }
-    ensures other { OnFalse result (BeginsCramfs bytes.now → ⊥) }
+/// The fault of bytes that begin as no format.
+fn neither(bytes: &[u8]) -> CheckError
+    ensures { result ≡ neither bytes.now }
 {
-    match order_in(bytes) {
-        Some(_) => true,
-        None => false,
-    }
+    let number = if bytes.len() < SHORTEST { SHORT } else { MAGIC };
+    CheckError::Fault { number, at: 0 }
 }
 
 /// Checks these bytes, and returns their image if they hold the tree of a romfs image, or of a
@@ -47,14 +43,13 @@ pub fn check<'a>(alloc: Global, bytes: &'a [u8], limits: Limits) -> Result<AnyIm
     ensures neither { (BeginsRomfs bytes.now → ⊥) → (BeginsCramfs bytes.now → ⊥)
         → result ≡ Err (neither bytes.now) }
 {
-    if begins(bytes) {
-        let image = Romfs::check(alloc, bytes, limits)?;
-        return Ok(AnyImage::Romfs(image));
+    let Some(format) = Format::in_bytes(bytes) else {
+        return Err(neither(bytes));
+    };
+    match format {
+        Format::Romfs => Ok(AnyImage::Romfs(Romfs::check(alloc, bytes, limits)?)),
+        Format::Cramfs | Format::CramfsBig => {
+            Ok(AnyImage::Cramfs(Cramfs::check(alloc, bytes, limits)?))
+        }
     }
-    if is_cramfs(bytes) {
-        let image = Cramfs::check(alloc, bytes, limits)?;
-        return Ok(AnyImage::Cramfs(image));
-    }
-    let number = if bytes.len() < SHORTEST { SHORT } else { MAGIC };
-    Err(CheckError::Fault { number, at: 0 })
 }

@@ -1,8 +1,9 @@
 //! Laws of images of either format, and of the bytes that a check looks at.
 ghost use Rattle.cramfs_format.specs.Superblock.{order_of};
-ghost use Rattle.image_check.specs.Checked.{HasTree, IsFaultless, BeginsRomfs, BeginsCramfs};
+ghost use Rattle.formats.specs.Begins.{BeginsRomfs, BeginsCramfs};
+ghost use Rattle.image_check.specs.Checked.{HasTree, IsFaultless};
 ghost use Rattle.image_check.specs.Checked.{IsLeastFaultUnder, IsRefused, Shows};
-ghost use Rattle.image_check.specs.Reach.{IsSumRefused, Reaches};
+ghost use Rattle.formats.specs.Reach.{IsSumRefused, Reaches};
 ghost use Rattle.rom_faults.specs.FaultNumbers.{SUM};
 ghost use Rattle.rom_faults.specs.declared.error.CheckError.TheVariants.{Fault};
 ghost use Rattle.rom_faults.specs.declared.error.CheckError.{CheckError};

@@ -14,9 +14,8 @@
 mod any;
 mod checking;
 pub mod laws;
-mod reading;
 
 pub use any::{AnyImage, Parts};
 pub use checking::check;
-pub use reading::{HEAD, SUMMED, is_sum_refused, reach_of};
+pub use formats::{HEAD, SUMMED, is_sum_refused, reach_of};
 pub use rom_tree::{CheckError, Limits, Report, TreeImage};

@@ -8,13 +8,13 @@ use Rattle.rom_tree.specs.Names.{names}
 use Rattle.rom_tree.specs.declared.types.Report.{Report}
 use Rattle.romfs_format.specs.Tree.{full_size}
 use Rattle.cramfs_format.specs.declared.order.Order.{Order}
-use Rattle.cramfs_format.specs.declared.order.Order.TheVariants.{Little, Big}
 use Rattle.cramfs_format.specs.Order.{word}
 use Rattle.cramfs_format.specs.Superblock.{accessible_size, flags_of}
 use Rattle.cramfs_image.specs.Reported.{order_in}
+use Rattle.formats.specs.Format.{name_of}
 use Rattle.image_check.specs.declared.any.AnyImage.{AnyImage}
 use Rattle.image_check.specs.declared.any.AnyImage.TheVariants.{Romfs, Cramfs}
-use Rattle.image_check.specs.Any.{any_view, report_of}
+use Rattle.image_check.specs.Any.{any_view, image_format, report_of}
 use Rattle.image_info.specs.Gaps.{gaps_of}
 use Rattle.image_info.specs.Map.{eight_digits}
 use Rattle.image_info.specs.declared.tally.Tally.{Tally}
@@ -37,35 +37,32 @@ number_line key n = plain_line key (decimal n)
 abbrev pub word_line : List ℕ → ℕ → List ℕ
 word_line key n = key ++ (codes "0x" ++ (eight_digits n ++ codes "\n"))
 
--- the superblock of a romfs image in a file of `file` bytes: its full size, at 8, and its checksum,
--- at 12
+-- the superblock of a romfs image in a file of `file` bytes, without the line of the format: its
+-- full size, at 8, and its checksum, at 12
 unfoldable pub romfs_text : ℕ → List ℕ → List ℕ
 romfs_text file b =
-    plain_line (codes "format ") (codes "romfs")
-    ++ (number_line (codes "size ") (full_size b)
+    number_line (codes "size ") (full_size b)
     ++ (number_line (codes "file ") file
-    ++ (text_line (codes "volume ") (romfs_volume b)
-    ++ word_line (codes "sum ") (word_be b 12))))
+    ++ (text_line (codes "volume ") (romfs_volume b) ++ word_line (codes "sum ") (word_be b 12)))
 
-abbrev pub cramfs_name : Order → List ℕ
-cramfs_name Little = codes "cramfs"
-cramfs_name Big = codes "cramfs-be"
-
--- the superblock of a cramfs image in a file of `file` bytes: the number of accessible bytes, its
--- flags, at 8, and its CRC, at 32
+-- the superblock of a cramfs image in a file of `file` bytes, without the line of the format: the
+-- number of accessible bytes, its flags, at 8, and its CRC, at 32
 unfoldable pub cramfs_text : ℕ → Order → List ℕ → List ℕ
 cramfs_text file o b =
-    plain_line (codes "format ") (cramfs_name o)
-    ++ (number_line (codes "size ") (accessible_size o b)
+    number_line (codes "size ") (accessible_size o b)
     ++ (number_line (codes "file ") file
     ++ (text_line (codes "volume ") (cramfs_volume b)
-    ++ (word_line (codes "flags ") (flags_of o b)
-    ++ word_line (codes "sum ") (word o b 32)))))
+    ++ (word_line (codes "flags ") (flags_of o b) ++ word_line (codes "sum ") (word o b 32))))
 
 -- by the image's format
+abbrev pub fields_text : ℕ → AnyImage → List ℕ
+fields_text file (Romfs s) = romfs_text file s.all.now
+fields_text file (Cramfs s) = cramfs_text file (order_in s) s.all.now
+
+-- the format, and the superblock
 abbrev pub superblock_text : ℕ → AnyImage → List ℕ
-superblock_text file (Romfs s) = romfs_text file s.all.now
-superblock_text file (Cramfs s) = cramfs_text file (order_in s) s.all.now
+superblock_text file a =
+    plain_line (codes "format ") (name_of (image_format a)) ++ fields_text file a
 
 -- the number of references, and the depth
 unfoldable pub report_text : Report → List ℕ

@@ -1,5 +1,5 @@
 //! The count of the bytes that nothing uses.
-ghost use Rattle.std.specs.Prelude.{◌≡◌, ◌≤◌, length, IfOk};
+ghost use Rattle.std.specs.Prelude.{◌≡◌, IfOk};
 ghost use Rattle.image_check.specs.declared.any.AnyImage.TheVariants.{Romfs as InRomfs};
 ghost use Rattle.image_check.specs.declared.any.AnyImage.TheVariants.{Cramfs as InCramfs};
 ghost use Rattle.image_info.specs.Gaps.{gaps_of, IsChecked};
@@ -7,7 +7,6 @@ ghost use Rattle.image_info.specs.Gaps.{gaps_of, IsChecked};
 use crate::spans::unused_bytes;
 use cramfs_format::superblock::accessible_size;
 use cramfs_image::Cramfs;
-use image_check::AnyImage;
 use rom_fields::OutOfMemory;
 use rom_tree::TreeImage;
 use romfs_format::superblock::stated_size;
@@ -15,7 +14,7 @@ use romfs_image::Romfs;
 use std::alloc::Global;
 
 /// Does the same as `count_gaps` for a romfs image.
-fn count_romfs(alloc: Global, image: &Romfs<'_>) -> Result<u32, OutOfMemory>
+pub(crate) fn count_romfs(alloc: Global, image: &Romfs<'_>) -> Result<u32, OutOfMemory>
     requires { IsChecked (InRomfs image.now) }
     ensures { IfOk result (λ n. n ≡ gaps_of (InRomfs image.now)) }
 {
@@ -25,29 +24,11 @@ fn count_romfs(alloc: Global, image: &Romfs<'_>) -> Result<u32, OutOfMemory>
 }
 
 /// Does the same as `count_gaps` for a cramfs image.
-fn count_cramfs(alloc: Global, image: &Cramfs<'_>) -> Result<u32, OutOfMemory>
+pub(crate) fn count_cramfs(alloc: Global, image: &Cramfs<'_>) -> Result<u32, OutOfMemory>
     requires { IsChecked (InCramfs image.now) }
     ensures { IfOk result (λ n. n ≡ gaps_of (InCramfs image.now)) }
 {
     let size = accessible_size(image.parts().order, image.bytes());
     let mut spans = image.extents(alloc)?;
     Ok(unused_bytes(&mut spans, size))
-}
-
-/// Counts the accessible bytes of an image that nothing uses: no superblock, record with its name,
-/// list, table or contents. The records are read again. For r records and w block pointers, the
-/// time grows as n log n, with n = r + w. The memory is some 120 bytes a record and 24 a pointer.
-/// (Time and memory are not proved.)
-///
-/// # Errors
-///
-/// `OutOfMemory` if memory is refused.
-pub fn count_gaps(alloc: Global, image: &AnyImage<'_>) -> Result<u32, OutOfMemory>
-    requires { IsChecked image.now }
-    ensures { IfOk result (λ n. n ≡ gaps_of image.now) }
-{
-    match image {
-        AnyImage::Romfs(image) => count_romfs(alloc, image),
-        AnyImage::Cramfs(image) => count_cramfs(alloc, image),
-    }
 }

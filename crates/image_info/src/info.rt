@@ -7,9 +7,8 @@ ghost use Rattle.image_info.specs.Info.{report_text, tally_text, info_text};
 ghost use Rattle.image_info.specs.Endings.{WritesAll};
 ghost use Rattle.image_info.specs.Gaps.{IsChecked};
 
-use crate::count_gaps;
+use crate::by_format::{count_gaps, put_superblock};
 use crate::line::put_number;
-use crate::superblock::put_superblock;
 use crate::tally::{Tally, count_names};
 use image_check::AnyImage;
 use rom_fields::ByteWrite;

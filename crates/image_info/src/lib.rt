@@ -10,6 +10,7 @@
 //! what a reader needs to know of runs. `map` and `cat` allocate no memory.
 #![tactic(auto)]
 
+mod by_format;
 mod contents;
 mod counting;
 mod digits;
@@ -23,9 +24,8 @@ mod spans;
 mod superblock;
 mod tally;
 
+pub use by_format::{count_gaps, volume};
 pub use contents::cat;
-pub use counting::count_gaps;
 pub use digits::put_eight_digits;
 pub use info::{InfoError, write_info};
 pub use mapping::map;
-pub use superblock::volume;

@@ -6,7 +6,7 @@ use Rattle.std.specs.Io.{StartsWith}
 use Rattle.std.specs.Io.KnownBytes.{Consumes}
 use Rattle.std.proofs.KnownBytes.{Consumes-nil, Consumes-trans, starts_with_rest}
 use Rattle.cramfs_format.specs.Superblock.{has_crc, order_of, size_word}
-use Rattle.image_check.specs.Reach.{Reaches, short, romfs, cramfs, neither, IsSumRefused}
+use Rattle.formats.specs.Reach.{Reaches, short, romfs, cramfs, neither, IsSumRefused}
 
 -- what was read in all
 pub read_on : (a b c : Option (List ℕ)) (old new : List ℕ) → Consumes a b old → StartsWith new old

@@ -3,7 +3,7 @@
 use Rattle.std.specs.Prelude.{◌≡◌, ℕ, max, min, List, length, take}
 use Rattle.image_load.specs.declared.loading.Found.{Found}
 use Rattle.image_load.specs.declared.loading.Found.TheVariants.{Image, Refused}
-use Rattle.image_check.specs.Reach.{Reaches, IsSumRefused}
+use Rattle.formats.specs.Reach.{Reaches, IsSumRefused}
 use Rattle.rom_faults.specs.FaultNumbers.{SUM}
 
 -- All bytes that a check of these bytes reads were loaded; or at most the first 512 were, and the

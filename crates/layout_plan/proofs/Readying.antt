@@ -17,20 +17,21 @@ use Rattle.romfs_layout.specs.Planned as romfs_planned
 use Rattle.cramfs_layout.specs.Items as cramfs_items
 use Rattle.cramfs_layout.specs.Layout.{size_of}
 use Rattle.cramfs_layout.specs.Planned as cramfs_planned
-use Rattle.manifest_layout.specs.Format.{Format, romfs, cramfs, len_of, items_of}
+use Rattle.formats.specs.Format.{Format, romfs, cramfs}
+use Rattle.manifest_layout.specs.Format.{len_of, items_of}
 use Rattle.manifest_layout.specs.Misfit.{HasLineMisfit, HasWholeMisfit, HasNoMisfit}
 use Rattle.manifest_layout.proofs.Decided.{whole_test, whole_decides}
 use Rattle.manifest_layout.proofs.Known.{known}
 use Rattle.manifest_layout.proofs.Plain.{good_text}
 use Rattle.manifest_layout.proofs.Sectioned.{planned}
-use Rattle.plan_types.specs.declared.format.Format as code_format
-use Rattle.plan_types.specs.declared.format.Format.TheVariants as format
+use Rattle.formats.specs.declared.format.Format as code_format
+use Rattle.formats.specs.declared.format.Format.TheVariants as format
 use Rattle.plan_types.specs.declared.laid.Laid.{Laid}
 use Rattle.plan_types.specs.Views.{item_view}
 use Rattle.std.specs.Option.{option_map}
 use Rattle.plan_rows.specs.declared.misfit.Misfit.{Misfit}
 use Rattle.plan_rows.specs.Misfits.{misfit_fault}
-use Rattle.plan_types.specs.Formats.{format_of}
+use Rattle.formats.specs.Format.{format_of}
 use Rattle.plan_rows.specs.Fits.{IsFit}
 use Rattle.plan_rows.specs.Rows.{Row}
 use Rattle.plan_rows.proofs.Fitting.{rows_fit}

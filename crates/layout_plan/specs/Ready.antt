@@ -4,7 +4,7 @@ use Rattle.std.specs.Prelude.{◌≡◌, ℕ, List}
 use Rattle.record_forest.specs.Faults.{IsNone}
 use Rattle.manifest.specs.Grammar.{IsManifest}
 use Rattle.manifest.specs.Lines.{ManifestLines}
-use Rattle.manifest_layout.specs.Format.{Format}
+use Rattle.formats.specs.Format.{Format}
 use Rattle.manifest_layout.specs.Misfit.{HasLineMisfit}
 use Rattle.manifest_tree.specs.Names.{Inode}
 use Rattle.manifest_tree.specs.Tree.{tree_of, root_of}

@@ -2,7 +2,7 @@
 -- refused. (This project's own.)
 use Rattle.std.specs.Prelude.{ℕ, List}
 use Rattle.manifest.specs.Lines.{ManifestLines}
-use Rattle.manifest_layout.specs.Format.{Format}
+use Rattle.formats.specs.Format.{Format}
 use Rattle.manifest_layout.specs.Misfit.{IsLeastMisfit}
 use Rattle.layout_plan.specs.declared.error.PlanError.{PlanError}
 use Rattle.layout_plan.specs.declared.error.PlanError.TheVariants as error

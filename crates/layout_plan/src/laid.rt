@@ -5,10 +5,11 @@ ghost use Rattle.layout_plan.specs.Ready.{IsReady};
 ghost use Rattle.layout_terms.specs.Items as terms;
 ghost use Rattle.manifest.specs.Grammar.{IsManifest};
 ghost use Rattle.manifest.specs.Lines.{ManifestLines};
-ghost use Rattle.manifest_layout.specs.Format.{romfs, cramfs, items_of, sections_of, len_of};
+ghost use Rattle.formats.specs.Format.{romfs, cramfs};
+ghost use Rattle.manifest_layout.specs.Format.{items_of, sections_of, len_of};
 ghost use Rattle.manifest_layout.specs.Misfit.{HasWholeMisfit, HasNoMisfit};
 ghost use Rattle.plan_rows.specs.Rows.{inode_view, row_view};
-ghost use Rattle.plan_types.specs.Formats.{format_of};
+ghost use Rattle.formats.specs.Format.{format_of};
 ghost use Rattle.plan_types.specs.Views.{item_view, section_view};
 
 use cramfs_format::Order;

@@ -2,7 +2,7 @@
 ghost use Rattle.std.specs.Prelude.{◌≡◌, length, IfOk, IfErr};
 ghost use Rattle.layout_plan.specs.Refusals.{IsRefusal};
 ghost use Rattle.manifest.specs.Lines.{sources_of};
-ghost use Rattle.plan_types.specs.Formats.{format_of};
+ghost use Rattle.formats.specs.Format.{format_of};
 ghost use Rattle.plan_types.specs.Plans.{IsPlanOf};
 
 use crate::error::PlanError;

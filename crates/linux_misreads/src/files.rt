@@ -5,14 +5,12 @@ ghost use Rattle.std.specs.Ordering.{nat_cmp};
 ghost use Rattle.rom_tree.specs.Tree.{Node, IsShallow};
 ghost use Rattle.rom_tree.specs.Image.{image_node, HasNode};
 ghost use Rattle.rom_tree.specs.Names.{names};
-ghost use Rattle.image_check.specs.Any.{any_view};
-ghost use Rattle.linux_misreads.specs.Tables.{AreFirst, AreFirstOf, either, one_known, number_in};
+ghost use Rattle.linux_misreads.specs.Tables.{AreFirst, either, one_known, number_in};
 ghost use Rattle.linux_misreads.specs.Tables.{view};
 
 use crate::inodes::{offset_field, size_field, type_field};
 use crate::known::{Known, is_known_by_table, kept_of};
 use cramfs_image::Cramfs;
-use image_check::AnyImage;
 use rom_fields::OutOfMemory;
 use rom_tree::{NodeId, TreeImage, Walk};
 use std::alloc::Global;
@@ -62,7 +60,10 @@ fn note(first: &mut BTreeMap<u32, Known>, image: &Cramfs<'_>, n: NodeId) -> Resu
 /// # Errors
 ///
 /// `OutOfMemory` if memory is refused.
-fn first_of_tables(alloc: Global, image: &Cramfs<'_>) -> Result<BTreeMap<u32, Known>, OutOfMemory>
+pub(crate) fn first_of_tables(
+    alloc: Global,
+    image: &Cramfs<'_>,
+) -> Result<BTreeMap<u32, Known>, OutOfMemory>
     requires { IsShallow (view image.now).tree }
     ensures { IfOk result (λ m. AreFirst image.now
         (names (view image.now).tree) m) }
@@ -73,23 +74,4 @@ fn first_of_tables(alloc: Global, image: &Cramfs<'_>) -> Result<BTreeMap<u32, Kn
         note(&mut first, image, node)?;
     }
     Ok(first)
-}
-
-/// The facts that Linux keeps of the first file of each table of a cramfs image. romfs has no
-/// tables.
-///
-/// # Errors
-///
-/// `OutOfMemory` if memory is refused.
-pub(crate) fn first_files(
-    alloc: Global,
-    image: &AnyImage<'_>,
-) -> Result<BTreeMap<u32, Known>, OutOfMemory>
-    requires { IsShallow (any_view image.now).tree }
-    ensures { IfOk result (λ m. AreFirstOf image.now m) }
-{
-    match image {
-        AnyImage::Romfs(_) => Ok(BTreeMap::new(alloc)),
-        AnyImage::Cramfs(image) => first_of_tables(alloc, image),
-    }
 }

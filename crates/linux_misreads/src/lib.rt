@@ -7,6 +7,7 @@
 //! for the cases in which they do not keep to the format.
 #![tactic(auto)]
 
+mod by_format;
 mod differences;
 mod files;
 mod inodes;

@@ -5,11 +5,10 @@ ghost use Rattle.rom_tree.specs.Tree.{Node};
 ghost use Rattle.rom_tree.specs.Image.{image_node, HasNode};
 ghost use Rattle.rom_tree.specs.Names.{named, names};
 ghost use Rattle.rom_tree.specs.Walks.{given_path, given_name};
-ghost use Rattle.image_check.specs.Any.{any_view};
-ghost use Rattle.linux_misreads.specs.Tables.{AreFirst, AreFirstOf, is_other_file, romfs_view};
+ghost use Rattle.linux_misreads.specs.Tables.{AreFirst, is_other_file, romfs_view};
 ghost use Rattle.linux_misreads.specs.Tables.{view};
 ghost use Rattle.linux_misreads.specs.Misreads.{cramfs_name, ends_with_a_block, misread_line};
-ghost use Rattle.linux_misreads.specs.Misreads.{name_misreads, romfs_name, Prints};
+ghost use Rattle.linux_misreads.specs.Misreads.{romfs_name, Prints};
 
 use crate::differences::{
     is_cut_link, is_cut_name, is_not_found, is_other_cramfs_device, is_other_romfs_device,
@@ -19,7 +18,6 @@ use crate::files::number_of;
 use crate::known::{Known, is_known_by_table, is_same_file, kept_of};
 use crate::readers::romfs_finds;
 use cramfs_image::Cramfs;
-use image_check::AnyImage;
 use rom_fields::{ByteWrite, put};
 use rom_tree::{NodeId, TreeImage, Walk, is_regular_at};
 use romfs_image::Romfs;
@@ -76,7 +74,7 @@ fn is_taken_for_another(image: &Cramfs<'_>, first: &BTreeMap<u32, Known>, n: Nod
 }
 
 /// Puts the lines of a name of a cramfs image.
-fn put_cramfs_name<'a, W: ByteWrite>(
+pub(crate) fn put_cramfs_name<'a, W: ByteWrite>(
     image: &Cramfs<'a>,
     first: &BTreeMap<u32, Known>,
     w: &mut W,
@@ -108,7 +106,7 @@ fn put_cramfs_name<'a, W: ByteWrite>(
 }
 
 /// Puts the lines of a name of a romfs image.
-fn put_romfs_name<'a, W: ByteWrite>(
+pub(crate) fn put_romfs_name<'a, W: ByteWrite>(
     image: &Romfs<'a>,
     w: &mut W,
     failed: &mut bool,
@@ -139,27 +137,4 @@ fn put_romfs_name<'a, W: ByteWrite>(
         printed,
         walk,
     );
-}
-
-/// Puts the lines of the node that a walk returned last, if Linux misreads it.
-pub(crate) fn put_misreads<'a, W: ByteWrite>(
-    image: &AnyImage<'a>,
-    first: &BTreeMap<u32, Known>,
-    w: &mut W,
-    failed: &mut bool,
-    printed: &mut bool,
-    n: NodeId,
-    walk: &Walk<'a>,
-)
-    requires node { HasNode (any_view image.now) n.0 }
-    requires first { AreFirstOf image.now first.now }
-    ensures { (x : Node) → image_node (any_view image.now) n.0 ≡ Some x
-        → Prints (sink (W.output w.old) failed.old) (sink (W.output w.new) failed.new)
-        printed.old printed.new
-        (name_misreads image.now (named (given_path walk.now) (given_name walk.now) x)) }
-{
-    match image {
-        AnyImage::Romfs(image) => put_romfs_name(image, w, failed, printed, n, walk),
-        AnyImage::Cramfs(image) => put_cramfs_name(image, first, w, failed, printed, n, walk),
-    }
 }

@@ -1,39 +1,16 @@
 //! All that Linux misreads in an image.
 ghost use Rattle.std.specs.Prelude.{◌≡◌, ◌≤◌, IfOk};
-ghost use Rattle.rom_fields.specs.Written.{Puts, sink};
 ghost use Rattle.rom_tree.specs.Tree.{IsShallow};
 ghost use Rattle.image_check.specs.Any.{any_view};
 ghost use Rattle.image_info.specs.Endings.{WritesAll};
-ghost use Rattle.linux_misreads.specs.Misreads.{is_printed, misreads_text, volume_misreads};
+ghost use Rattle.linux_misreads.specs.Misreads.{is_printed, misreads_text};
 
-use crate::differences::is_root_missed;
-use crate::files::first_files;
-use crate::names::put_misreads;
+use crate::by_format::{first_files, put_misreads, put_volume};
 use image_check::AnyImage;
-use image_info::{InfoError, volume};
-use rom_fields::{ByteWrite, put};
+use image_info::InfoError;
+use rom_fields::ByteWrite;
 use rom_tree::Walk;
 use std::alloc::Global;
-
-/// Puts the line of a volume's name if Linux uses an offset within the name for the root. Returns
-/// whether it does.
-fn put_volume<W: ByteWrite>(image: &AnyImage<'_>, w: &mut W, failed: &mut bool) -> bool
-    ensures puts { Puts (sink (W.output w.old) failed.old) (sink (W.output w.new) failed.new)
-        (volume_misreads image.now) }
-    ensures printed { result ≡ is_printed (volume_misreads image.now) }
-{
-    let name = volume(image);
-    match image {
-        AnyImage::Romfs(_) => {
-            if is_root_missed(name) {
-                put(w, failed, b"linux 5 Volume /\n");
-                return true;
-            }
-            false
-        }
-        AnyImage::Cramfs(_) => false,
-    }
-}
 
 /// Writes a line for each thing that Linux's reader of its format misreads in an image: that of the
 /// volume, and then, in the list's order, those of each name by their numbers. Returns `true` if

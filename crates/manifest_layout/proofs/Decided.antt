@@ -17,7 +17,8 @@ use Rattle.layout_terms.specs.Files.{height}
 use Rattle.romfs_format.specs.Tree.{mode_named}
 use Rattle.romfs_layout.specs.Layout.{number_of, runnable}
 use Rattle.cramfs_layout.specs.Layout.{list_len}
-use Rattle.manifest_layout.specs.Format.{Format, romfs, cramfs, len_of, references_of}
+use Rattle.formats.specs.Format.{Format, romfs, cramfs}
+use Rattle.manifest_layout.specs.Format.{len_of, references_of}
 use Rattle.manifest_layout.specs.Tests.{bad_attribute, is_large, is_long, is_long_volume, has_no_links, fault}
 use Rattle.manifest_layout.specs.Tests.{number_by, number_of_line, at_line, of_lines, volume_by}
 use Rattle.manifest_layout.specs.Misfit.{HasBadAttribute, IsLarge, IsLong, IsLongVolume, HasNoLinks, name_len}

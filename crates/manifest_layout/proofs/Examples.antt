@@ -12,7 +12,8 @@ use Rattle.manifest_tree.specs.Tree.{tree_of, root_of, file_at, inode_of}
 use Rattle.cramfs_format.specs.declared.order.Order.TheVariants.{Little, Big}
 use Rattle.romfs_layout.specs.Layout.{place_of, data_align, device_of, code_of}
 use Rattle.cramfs_layout.specs.Layout.{size_of, kept, data_of}
-use Rattle.manifest_layout.specs.Format.{Format, romfs, cramfs, len_of}
+use Rattle.formats.specs.Format.{Format, romfs, cramfs}
+use Rattle.manifest_layout.specs.Format.{len_of}
 use Rattle.manifest_layout.specs.Misfit.{ATTRIBUTE, TOO_LARGE, NAME_TOO_LONG, HARD_LINK}
 use Rattle.manifest_layout.specs.Tests.{fault}
 use Rattle.manifest_layout.proofs.Decided.{least_misfit, Judged, decided}

@@ -2,7 +2,8 @@
 use Rattle.std.proofs.Common.{ℕ, List, length, map}
 use Rattle.manifest.specs.Grammar.{IsManifest}
 use Rattle.manifest.specs.Lines.{ManifestLines}
-use Rattle.manifest_layout.specs.Format.{Format, romfs, cramfs, IsPlannedBy}
+use Rattle.formats.specs.Format.{Format, romfs, cramfs}
+use Rattle.manifest_layout.specs.Format.{IsPlannedBy}
 use Rattle.manifest_layout.specs.Misfit.{HasNoMisfit}
 use Rattle.manifest_layout.proofs.PlannedRomfs as in_romfs
 use Rattle.manifest_layout.proofs.PlannedCramfs as in_cramfs

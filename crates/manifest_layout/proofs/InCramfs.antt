@@ -14,7 +14,7 @@ use Rattle.manifest_tree.specs.Tree.{plain, with_contents, inode_by, inode_of, s
 use Rattle.cramfs_format.specs.declared.order.Order.{Order}
 use Rattle.cramfs_layout.specs.Layout.{list_len}
 use Rattle.cramfs_layout.specs.Wells.{FitsKind, IsFile, IsDirectory}
-use Rattle.manifest_layout.specs.Format.{cramfs}
+use Rattle.formats.specs.Format.{cramfs}
 use Rattle.manifest_layout.specs.Misfit.{HasBadAttribute}
 use Rattle.manifest_layout.proofs.Written.{IsLine, is_device, is_slink}
 use Rattle.manifest_layout.proofs.Led.{IsFaultless, filed_member}

@@ -14,7 +14,7 @@ use Rattle.manifest_tree.specs.Tree.{plain, with_contents, inode_by, inode_of, s
 use Rattle.romfs_layout.specs.Layout.{data_align, number_of, runnable}
 use Rattle.romfs_format.specs.Tree.{mode_named}
 use Rattle.romfs_layout.specs.Wells.{HasMode, FitsKind, IsFile, IsDirectory}
-use Rattle.manifest_layout.specs.Format.{romfs}
+use Rattle.formats.specs.Format.{romfs}
 use Rattle.manifest_layout.specs.Misfit.{HasBadAttribute}
 use Rattle.manifest_layout.proofs.Written.{IsLine, is_device, is_slink}
 use Rattle.manifest_layout.proofs.Led.{IsFaultless, filed_member}

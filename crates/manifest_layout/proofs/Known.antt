@@ -21,7 +21,7 @@ use Rattle.manifest_tree.specs.Names.{Inode}
 use Rattle.manifest_tree.specs.Tree.{inode_of, file_at, root_of, bare_root, or_else}
 use Rattle.manifest_tree.proofs.Law.{HaveFiles, have_files}
 use Rattle.manifest_layout.proofs.Bools.{same_some, dir_not_hard}
-use Rattle.manifest_layout.specs.Format.{Format}
+use Rattle.formats.specs.Format.{Format}
 use Rattle.manifest_layout.specs.Misfit.{HasMisfit, HasLineMisfit, of_line}
 use Rattle.manifest_layout.proofs.Written.{IsLine, IsWritten, written}
 use Rattle.manifest_layout.proofs.Led.{LedIn, all_led, led_member, IsFaultless, all_faultless, HasFile, has_file}

@@ -3,7 +3,7 @@ use Rattle.std.proofs.Common.{◌≡◌, ℕ, List, sym, ap, ◌∙◌, arith, i
 use Rattle.rom_faults.specs.declared.fault.Fault.{Fault}
 use Rattle.record_forest.specs.Faults.{NotAfter}
 use Rattle.manifest.specs.Lines.{ManifestLines}
-use Rattle.manifest_layout.specs.Format.{Format}
+use Rattle.formats.specs.Format.{Format}
 use Rattle.manifest_layout.specs.Misfit.{IsLeastMisfit, line_misfit, whole_misfit, HasNoMisfit}
 
 pub excluded : (f : Format) (m : ManifestLines) (sizes : List ℕ) (e : Fault) → HasNoMisfit f m sizes

@@ -28,7 +28,7 @@ use Rattle.manifest_tree.proofs.Law.{law_of_names}
 use Rattle.layout_terms.specs.Placement.{IsRun, AreInRuns}
 use Rattle.romfs_layout.specs.Disjoint.{FilesAreApart}
 use Rattle.cramfs_layout.specs.Sharing.{SourcesAreShared}
-use Rattle.manifest_layout.specs.Format.{Format}
+use Rattle.formats.specs.Format.{Format}
 use Rattle.manifest_layout.specs.Misfit.{HasNoMisfit}
 use Rattle.manifest_layout.specs.Placement.{IsPlaced, AreShared, AreApart}
 use Rattle.manifest_layout.proofs.Grown.{inode_line}

@@ -15,7 +15,8 @@ use Rattle.manifest_tree.proofs.Law.{grown_by}
 use Rattle.layout_terms.specs.Files.{files, height}
 use Rattle.cramfs_format.proofs.Orders.{never_self}
 use Rattle.manifest_layout.proofs.Bools.{dir_not_hard}
-use Rattle.manifest_layout.specs.Format.{cramfs, references_of}
+use Rattle.formats.specs.Format.{cramfs}
+use Rattle.manifest_layout.specs.Format.{references_of}
 use Rattle.manifest_layout.specs.Misfit.{attribute, HasNoMisfit, long, deep, many}
 use Rattle.manifest_layout.proofs.Sorted.{Before, last_of, AreSorted, HoldAll}
 use Rattle.manifest_layout.proofs.Led.{IsFaultless, HasFile}

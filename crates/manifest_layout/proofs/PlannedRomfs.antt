@@ -23,7 +23,7 @@ use Rattle.romfs_layout.specs.Items.{item_of}
 use Rattle.romfs_layout.specs.Wells.{IsFile, IsDirectory, AreWell, AreLinks, file_of}
 use Rattle.romfs_layout.specs.Planned.{IsPlanned}
 use Rattle.manifest_layout.proofs.Bools.{dir_not_hard}
-use Rattle.manifest_layout.specs.Format.{romfs}
+use Rattle.formats.specs.Format.{romfs}
 use Rattle.manifest_layout.specs.Misfit.{HasBadAttribute, attribute, HasNoMisfit, long, deep, many}
 use Rattle.manifest_layout.proofs.Sorted.{AreSorted, HoldAll}
 use Rattle.manifest_layout.proofs.Led.{IsFaultless, HasFile}

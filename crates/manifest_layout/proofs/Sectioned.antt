@@ -10,7 +10,8 @@ use Rattle.layout_terms.proofs.Sections.{rise_wider}
 use Rattle.romfs_layout.specs.Layout.{root_at, full_size_of}
 use Rattle.romfs_layout.proofs.Sectioned as in_romfs
 use Rattle.cramfs_layout.proofs.Sectioned as in_cramfs
-use Rattle.manifest_layout.specs.Format.{Format, romfs, cramfs, len_of, sections_of, IsPlannedBy}
+use Rattle.formats.specs.Format.{Format, romfs, cramfs}
+use Rattle.manifest_layout.specs.Format.{len_of, sections_of, IsPlannedBy}
 use Rattle.manifest_layout.specs.Misfit.{HasNoMisfit}
 use Rattle.manifest_layout.proofs.Fitting.{fitting}
 use Rattle.manifest_layout.proofs.Sourced.{align_of, sourced}

@@ -19,7 +19,7 @@ use Rattle.manifest_tree.specs.Tree.{inode_by}
 use Rattle.manifest_tree.specs.Tree.{inode_of, grown, tree_of}
 use Rattle.manifest_tree.proofs.Law.{grown_by}
 use Rattle.cramfs_layout.specs.Items.{AreAlignedBy}
-use Rattle.manifest_layout.specs.Format.{Format}
+use Rattle.formats.specs.Format.{Format}
 use Rattle.manifest_layout.specs.Misfit.{HasNoMisfit}
 use Rattle.manifest_layout.proofs.Sorted.{HoldAll, last_of}
 use Rattle.manifest_layout.proofs.Led.{HasFile, filed_member}

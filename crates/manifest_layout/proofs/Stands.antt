@@ -9,7 +9,8 @@ use Rattle.manifest_tree.specs.Tree.{tree_of, root_of, file_at, inode_of}
 use Rattle.cramfs_format.specs.declared.order.Order.TheVariants.{Little}
 use Rattle.romfs_layout.specs.Layout.{place_of, data_align, device_of, code_of}
 use Rattle.cramfs_layout.specs.Layout.{kept, data_of}
-use Rattle.manifest_layout.specs.Format.{Format, romfs, cramfs, items_of}
+use Rattle.formats.specs.Format.{Format, romfs, cramfs}
+use Rattle.manifest_layout.specs.Format.{items_of}
 
 -- for an item: its offset, its table, and the offset of its bytes
 record Stand : Type 0 where

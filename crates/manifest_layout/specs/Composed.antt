@@ -4,7 +4,8 @@ use Rattle.std.specs.Prelude.{map, ℕ, List, length}
 use Rattle.cramfs_layout.specs.Composed as of_cramfs
 use Rattle.cramfs_layout.specs.Layout.{size_of, superblock}
 use Rattle.manifest.specs.Lines.{ManifestLines}
-use Rattle.manifest_layout.specs.Format.{Format, romfs, cramfs, items_of}
+use Rattle.formats.specs.Format.{Format, romfs, cramfs}
+use Rattle.manifest_layout.specs.Format.{items_of}
 use Rattle.manifest_tree.specs.Tree.{tree_of, root_of}
 use Rattle.romfs_layout.specs.Composed as of_romfs
 use Rattle.romfs_layout.specs.Layout.{full_size_of, root_at}

@@ -1,8 +1,8 @@
--- `Format`: romfs, or cramfs in a byte order. `layout_of`, `len_of`: the layout of a manifest, and
--- its length. `HasUsualTree`: the tree that the format defines for bytes, under the usual limits.
--- `items_of`, `sections_of`: by format. (This project's own.)
+-- `layout_of`, `len_of`: the layout of a manifest in a format, and its length. `HasUsualTree`: the
+-- tree that the format defines for bytes, under the usual limits. `items_of`, `sections_of`: by
+-- format. (This project's own.)
 use Rattle.std.specs.Prelude.{◌^◌, map, ℕ, List, length}
-use Rattle.cramfs_format.specs.declared.order.Order.{Order}
+use Rattle.formats.specs.Format.{Format, romfs, cramfs}
 use Rattle.manifest.specs.Lines.{ManifestLines}
 use Rattle.manifest_tree.specs.Tree.{tree_of, root_of}
 use Rattle.rom_fields.specs.Padding.{pad}
@@ -16,10 +16,6 @@ use Rattle.cramfs_layout.specs.Planned as of_cramfs_planned
 use Rattle.rom_tree.specs.Tree.{Node}
 use Rattle.romfs_format.specs.Tree.{RomfsTree}
 use Rattle.cramfs_format.specs.Tree.{CramfsTree}
-
-pub data Format : Type 0 where
-  romfs : Format
-  cramfs : Order → Format
 
 -- the length of the image, if the sources have these sizes
 abbrev pub len_of : Format → ManifestLines → List ℕ → ℕ

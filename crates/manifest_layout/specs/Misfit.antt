@@ -16,7 +16,8 @@ use Rattle.manifest_tree.specs.Tree.{inode_of, tree_of}
 use Rattle.layout_terms.specs.Files.{height}
 use Rattle.romfs_layout.specs.Wells.{HasMode}
 use Rattle.cramfs_layout.specs.Layout.{list_len}
-use Rattle.manifest_layout.specs.Format.{Format, romfs, cramfs, len_of, references_of}
+use Rattle.formats.specs.Format.{Format, romfs, cramfs}
+use Rattle.manifest_layout.specs.Format.{len_of, references_of}
 
 -- the numbers of misfits
 abbrev pub ATTRIBUTE : ℕ

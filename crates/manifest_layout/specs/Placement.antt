@@ -14,7 +14,7 @@ use Rattle.manifest.specs.Paths.{names_of}
 use Rattle.manifest_tree.specs.Shape.{node_under}
 use Rattle.layout_terms.specs.Placement.{IsRun}
 use Rattle.romfs_layout.specs.Disjoint.{AreDisjoint}
-use Rattle.manifest_layout.specs.Format.{Format, romfs, cramfs}
+use Rattle.formats.specs.Format.{Format, romfs, cramfs}
 
 -- A line l of the manifest leads to a regular file, as `file`, `same` and `hard` lines do, and o is
 -- the `file` line whose contents that file has. Then the node at the path of l has its bytes in one

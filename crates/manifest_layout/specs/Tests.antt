@@ -12,7 +12,7 @@ use Rattle.manifest_tree.specs.Names.{Inode}
 use Rattle.manifest_tree.specs.Tree.{inode_of}
 use Rattle.romfs_format.specs.Tree.{mode_named}
 use Rattle.romfs_layout.specs.Layout.{number_of, runnable}
-use Rattle.manifest_layout.specs.Format.{Format, romfs, cramfs}
+use Rattle.formats.specs.Format.{Format, romfs, cramfs}
 use Rattle.manifest_layout.specs.Misfit.{name_len}
 
 -- whether the format cannot store an attribute of a file: an owner, a group, a mode or a device's

@@ -12,7 +12,7 @@ use Rattle.record_forest.proofs.Lists.{pairs_right}
 use Rattle.manifest.specs.declared.line.Line.{Line}
 use Rattle.manifest.specs.Grammar.{IsManifest}
 use Rattle.manifest.specs.Lines.{ManifestLines}
-use Rattle.manifest_layout.specs.Format.{Format}
+use Rattle.formats.specs.Format.{Format}
 use Rattle.manifest_layout.specs.Tests.{fault, at_line, number_of_line, of_lines}
 use Rattle.plan_rows.proofs.Knowing.{Rise, rise}
 

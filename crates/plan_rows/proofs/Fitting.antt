@@ -17,7 +17,7 @@ use Rattle.manifest_tree.specs.Tree.{What, a_leaf, a_link, a_directory, what_by,
 use Rattle.manifest_tree.specs.Tree.{grown}
 use Rattle.manifest_tree.specs.Tree.{tree_of}
 use Rattle.manifest_tree.proofs.Law.{grown_by}
-use Rattle.manifest_layout.specs.Format.{Format}
+use Rattle.formats.specs.Format.{Format}
 use Rattle.manifest_layout.specs.Misfit.{HasLineMisfit, IsLarge, IsLong, large, long_name, hard_link, name_len}
 use Rattle.manifest_layout.proofs.Grown.{Gives, IsGrown, grown_is}
 use Rattle.manifest_layout.proofs.Known.{Fits, IsKnown, known}

@@ -14,3 +14,4 @@ mod Names
 mod Numbers
 mod Firsts
 mod Paths
+mod Capacities

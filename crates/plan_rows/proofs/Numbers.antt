@@ -8,7 +8,7 @@ use Rattle.manifest.specs.declared.line.Word.TheVariants.{Dir, File, Slink, Bloc
 use Rattle.manifest.specs.Lines.{ManifestLines, is_hard, filed}
 use Rattle.manifest_tree.specs.Tree.{inode_of, inode_by, with_contents}
 use Rattle.plan_rows.specs.Files.{contents_at, contents_of}
-use Rattle.manifest_layout.specs.Format.{Format, romfs, cramfs}
+use Rattle.formats.specs.Format.{Format, romfs, cramfs}
 use Rattle.manifest.specs.Paths.{names_of}
 use Rattle.manifest_layout.specs.Misfit.{name_len}
 use Rattle.manifest_layout.specs.Tests.{bad_attribute, is_large, is_long, has_no_links, number_by, number_of_line}

@@ -2,7 +2,7 @@
 -- project's own.)
 use Rattle.std.specs.Prelude.{◌<◌, ◌≤◌, length}
 use Rattle.manifest_tree.specs.Tree.{What, a_leaf, a_link, a_directory}
-use Rattle.manifest_layout.specs.Format.{Format}
+use Rattle.formats.specs.Format.{Format}
 use Rattle.manifest_layout.specs.Misfit.{IsLarge, IsLong, HasNoLinks}
 use Rattle.plan_rows.specs.Rows.{Row}
 

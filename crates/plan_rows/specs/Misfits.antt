@@ -1,6 +1,9 @@
--- `without_bytes`, `size_by`: the kind and the size of a line's file. `misfit_fault`: a misfit of
--- the code as a fault. (This project's own.)
-use Rattle.std.specs.Prelude.{ℕ, length, Option, Some, None}
+-- `without_bytes`, `size_by`: the kind and the size of a line's file. `exceeds`: an attribute is more
+-- than a format can hold. `misfit_fault`: a misfit of the code as a fault. (This project's own.)
+use Rattle.std.specs.Prelude.{ℕ, ◌==◌, ◌||◌, ◌&&◌, Bool, nat_lt, not, length, Option, Some, None}
+use Rattle.formats.specs.declared.capacity.Capacity.{Capacity}
+use Rattle.romfs_format.specs.Tree.{mode_named}
+use Rattle.romfs_layout.specs.Layout.{number_of, runnable}
 use Rattle.rom_faults.specs.declared.fault.Fault.{Fault}
 use Rattle.rom_tree.specs.declared.types.Kind.{Kind}
 use Rattle.rom_tree.specs.declared.types.Kind.TheVariants as kind
@@ -28,6 +31,17 @@ kind_by Same = kind.Regular
 -- a line's kind and attributes, without its bytes
 abbrev pub without_bytes : Line → Inode
 without_bytes l = plain l (kind_by l.word) 4 0 no_bytes
+
+-- the mode of a file is not that which the format has for its kind
+abbrev pub has_other_mode : Capacity → Inode → Bool
+has_other_mode most i =
+    not most.has_modes && not (mode_named (number_of i.kind) (i.mode == runnable) == i.mode)
+
+-- an attribute of a file is above what the format can hold, or its mode is another
+abbrev pub exceeds : Capacity → Inode → Bool
+exceeds most i =
+    nat_lt most.owner i.uid || (nat_lt most.group i.gid || (has_other_mode most i
+    || (nat_lt most.device i.major || nat_lt most.device i.minor)))
 
 abbrev pub size_or : Option SourceUse → ℕ
 size_or None = 0

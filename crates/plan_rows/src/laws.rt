@@ -3,7 +3,7 @@ ghost use Rattle.std.specs.List.{AllByRecursion as Every};
 ghost use Rattle.std.specs.Prelude.{◌≡◌, [], ℕ, List};
 ghost use Rattle.manifest.specs.Grammar.{IsManifest};
 ghost use Rattle.manifest.specs.Lines.{ManifestLines};
-ghost use Rattle.manifest_layout.specs.Format.{Format};
+ghost use Rattle.formats.specs.Format.{Format};
 ghost use Rattle.manifest_layout.specs.Misfit.{HasLineMisfit};
 ghost use Rattle.plan_rows.specs.Entries.{Entry, Holds, Rise, entries, entries_of};
 ghost use Rattle.plan_rows.specs.Fits.{IsFit};

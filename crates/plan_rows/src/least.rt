@@ -5,7 +5,7 @@ ghost use Rattle.manifest.specs.Grammar.{IsManifest};
 ghost use Rattle.manifest_layout.specs.Tests as tests;
 ghost use Rattle.manifest_layout.specs.Misfit.{HasLineMisfit};
 ghost use Rattle.plan_rows.specs.Files.{IsOf};
-ghost use Rattle.plan_types.specs.Formats.{format_of};
+ghost use Rattle.formats.specs.Format.{format_of};
 ghost use Rattle.plan_rows.specs.Misfits.{misfit_fault};
 ghost use Rattle.record_forest.specs.Faults.{IsLeastFaultOf};
 ghost use Rattle.record_forest.specs.Lesser.{lesser_of_both};

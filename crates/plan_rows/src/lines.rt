@@ -1,5 +1,5 @@
 //! The misfits of one line in a format.
-ghost use Rattle.std.specs.Prelude.{◌≡◌, ◌==◌, true, length, List, ℕ};
+ghost use Rattle.std.specs.Prelude.{◌≡◌, ◌==◌, nat_lt, false, true, length, List, ℕ, MatchOption};
 ghost use Rattle.std.specs.Option.{is_some};
 ghost use Rattle.manifest.specs.Lines as lines;
 ghost use Rattle.manifest.specs.Lines.{ManifestLines};
@@ -8,35 +8,17 @@ ghost use Rattle.manifest.specs.Paths.{names_of};
 ghost use Rattle.manifest_layout.specs.Tests as tests;
 ghost use Rattle.manifest_layout.specs.Misfit.{name_len};
 ghost use Rattle.plan_rows.specs.Files.{IsOf, contents_at};
-ghost use Rattle.plan_types.specs.Formats.{format_of};
-ghost use Rattle.plan_rows.specs.Misfits.{kind_by, without_bytes, size_by};
+ghost use Rattle.formats.specs.Format.{format_of};
+ghost use Rattle.plan_rows.specs.Misfits.{exceeds, has_other_mode, kind_by, without_bytes};
+ghost use Rattle.plan_rows.specs.Misfits.{size_by};
 ghost use Rattle.romfs_format.specs.Tree.{mode_named};
 ghost use Rattle.romfs_layout.specs.Layout.{number_of};
 
 use crate::PathTargets;
 use crate::misfit::{ATTRIBUTE, HARD_LINK, NAME_TOO_LONG, TOO_LARGE};
+use formats::{Capacity, Format};
 use manifest::{Line, Word};
 use memchr::memrchr;
-use plan_types::Format;
-use romfs_format::disk;
-
-/// The greatest number of a romfs device, and the greatest owner in cramfs.
-const MOST_OF_TWO_BYTES: u32 = 65_535;
-
-/// The greatest group and the greatest number of a device in cramfs.
-const MOST_OF_A_BYTE: u32 = 255;
-
-/// The most bytes of a file in romfs, as of an image.
-const ROMFS_FILE_MOST: u64 = disk::MOST_BYTES as u64;
-
-/// The limit below which the size of a file in cramfs is: 2^24.
-const CRAMFS_FILE_LIMIT: u64 = 1 << 24;
-
-/// The most bytes of a name in cramfs.
-const CRAMFS_NAME_MOST: usize = 252;
-
-/// The most bytes of a volume's name in cramfs.
-const CRAMFS_VOLUME_MOST: usize = 16;
 
 /// Returns the mode that romfs has for the file of a line, with the bit "executable" if its mode is
 /// 0755.
@@ -53,29 +35,45 @@ fn romfs_mode(line: &Line) -> u32
     }
 }
 
+/// Returns whether a file has another mode than the format would store.
+fn has_other_mode(most: &Capacity, line: &Line) -> bool
+    ensures { result ≡ has_other_mode most.now (without_bytes line.now) }
+{
+    !most.has_modes && romfs_mode(line) != line.mode
+}
+
+/// Returns whether an attribute of a line is above what a format can hold, or its mode is another.
+fn exceeds(most: &Capacity, line: &Line) -> bool
+    ensures { result ≡ exceeds most.now (without_bytes line.now) }
+{
+    line.uid > most.owner
+        || line.gid > most.group
+        || has_other_mode(most, line)
+        || line.major > most.device
+        || line.minor > most.device
+}
+
 /// Returns whether the format cannot store an attribute of a line.
 fn has_bad_attribute(format: Format, line: &Line) -> bool
     ensures { result ≡ tests.bad_attribute (format_of format) (without_bytes line.now) }
 {
-    let devices = match format {
-        Format::Romfs => MOST_OF_TWO_BYTES,
-        Format::Cramfs | Format::CramfsBig => MOST_OF_A_BYTE,
-    };
-    let owners = match format {
-        Format::Romfs => line.uid != 0 || line.gid != 0 || romfs_mode(line) != line.mode,
-        Format::Cramfs | Format::CramfsBig => line.uid > MOST_OF_TWO_BYTES
-            || line.gid > MOST_OF_A_BYTE,
-    };
-    owners || line.major > devices || line.minor > devices
+    exceeds(&format.capacity(), line)
 }
 
 /// Returns whether a file of so many bytes is too large.
 fn is_large(format: Format, size: u64) -> bool
     ensures { result ≡ tests.is_large (format_of format) size }
 {
-    match format {
-        Format::Romfs => size > ROMFS_FILE_MOST,
-        Format::Cramfs | Format::CramfsBig => size >= CRAMFS_FILE_LIMIT,
+    size > format.capacity().file
+}
+
+/// Returns whether there is a limit, and so many bytes are more.
+fn is_above(most: Option<usize>, len: usize) -> bool
+    ensures { MatchOption most (result ≡ false) (λ m. result ≡ nat_lt m len) }
+{
+    match most {
+        None => false,
+        Some(most) => len > most,
     }
 }
 
@@ -83,30 +81,21 @@ fn is_large(format: Format, size: u64) -> bool
 fn is_long(format: Format, len: usize) -> bool
     ensures { result ≡ tests.is_long (format_of format) len }
 {
-    match format {
-        Format::Romfs => false,
-        Format::Cramfs | Format::CramfsBig => len > CRAMFS_NAME_MOST,
-    }
+    is_above(format.capacity().name, len)
 }
 
 /// Returns whether a volume's name of so many bytes is too long.
 pub fn is_long_volume(format: Format, len: usize) -> bool
     ensures { result ≡ tests.is_long_volume (format_of format) len }
 {
-    match format {
-        Format::Romfs => false,
-        Format::Cramfs | Format::CramfsBig => len > CRAMFS_VOLUME_MOST,
-    }
+    is_above(format.capacity().volume, len)
 }
 
 /// Returns whether the format has no further names of a file.
 fn has_no_links(format: Format) -> bool
     ensures { result ≡ tests.has_no_links (format_of format) }
 {
-    match format {
-        Format::Romfs => false,
-        Format::Cramfs | Format::CramfsBig => true,
-    }
+    !format.capacity().has_hard_links
 }
 
 /// Returns the length of the last name of a path in bytes.

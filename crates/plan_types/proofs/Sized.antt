@@ -3,7 +3,8 @@ use Rattle.std.proofs.Common.{◌≡◌, ℕ, zero, suc, List, [], ◌∷◌, ma
 use Rattle.std.proofs.lemmas.List.{length-replicate}
 use Rattle.manifest.specs.Grammar.{IsManifest}
 use Rattle.manifest.specs.Lines.{ManifestLines}
-use Rattle.manifest_layout.specs.Format.{Format, IsPlannedBy}
+use Rattle.formats.specs.Format.{Format}
+use Rattle.manifest_layout.specs.Format.{IsPlannedBy}
 use Rattle.manifest_layout.specs.Misfit.{HasNoMisfit}
 
 -- a manifest that fits can be laid out

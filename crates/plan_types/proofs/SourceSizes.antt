@@ -14,7 +14,7 @@ use Rattle.manifest.specs.declared.line.Word.TheVariants.{Dir, File, Slink, Bloc
 use Rattle.manifest.specs.Lines.{ManifestLines, is_file, is_hard, is_same, led, filed, sources_of}
 use Rattle.manifest.specs.Grammar.{IsManifest}
 use Rattle.manifest_tree.specs.Tree.{sources_before, with_contents, inode_of, inode_by}
-use Rattle.manifest_layout.specs.Format.{Format, romfs, cramfs}
+use Rattle.formats.specs.Format.{Format, romfs, cramfs}
 use Rattle.manifest_layout.specs.Misfit.{HasNoMisfit, IsLarge, TOO_LARGE, large}
 use Rattle.manifest_layout.proofs.Sourced.{has_reverse, every_back}
 use Rattle.manifest_layout.proofs.Written.{written}

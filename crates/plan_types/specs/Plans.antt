@@ -4,7 +4,8 @@ use Rattle.std.specs.Prelude.{◌≡◌, ℕ, zero, suc, List, [], ◌∷◌, le
 use Rattle.layout_terms.specs.Items.{Item, Section}
 use Rattle.manifest.specs.Grammar.{IsManifest}
 use Rattle.manifest.specs.Lines.{ManifestLines, sources_of}
-use Rattle.manifest_layout.specs.Format.{Format, items_of, sections_of, len_of}
+use Rattle.formats.specs.Format.{Format}
+use Rattle.manifest_layout.specs.Format.{items_of, sections_of, len_of}
 use Rattle.manifest_layout.specs.Misfit.{HasNoMisfit}
 
 -- the contents of a plan

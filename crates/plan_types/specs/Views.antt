@@ -4,9 +4,9 @@ use Rattle.std.specs.Prelude.{ℕ, List, map, get_or}
 use Rattle.manifest_tree.specs.Names.{Fill, no_bytes, text, source}
 use Rattle.layout_terms.specs.Items.{Item, Section, Body, super, record_of, table_of, text_of}
 use Rattle.layout_terms.specs.Items.{contents_of}
-use Rattle.plan_types.specs.Formats.{format_of}
+use Rattle.formats.specs.Format.{format_of}
 use Rattle.plan_types.specs.Plans.{Planned}
-use Rattle.plan_types.specs.declared.format.Format as code_format
+use Rattle.formats.specs.declared.format.Format as code_format
 use Rattle.plan_types.specs.declared.item.Item as code_item
 use Rattle.plan_types.specs.declared.item.Fill as code_fill
 use Rattle.plan_types.specs.declared.item.Fill.TheVariants as fill

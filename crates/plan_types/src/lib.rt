@@ -3,17 +3,16 @@
 //!
 //! Proved: each `Plan` is that of some manifest that fits, and its functions return the values that
 //! it was made of. `layout_terms` and `manifest_layout` define items and sections.
-//! `specs/Views.antt` and `specs/Formats.antt` map the values of the code to these, and
-//! `specs/Plans.antt` has the conditions on a plan.
+//! `specs/Views.antt` maps the values of the code to these, and `specs/Plans.antt` has the
+//! conditions on a plan.
 #![tactic(auto)]
 
-mod format;
 mod item;
 mod laid;
 mod planned;
 mod section;
 
-pub use format::Format;
+pub use formats::Format;
 pub use item::{Fill, Item};
 pub use laid::Laid;
 pub use planned::Plan;

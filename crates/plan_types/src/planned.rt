@@ -1,14 +1,14 @@
 //! The plan of an image.
 ghost use Rattle.std.specs.Prelude.{◌≡◌, map, length};
 ghost use Rattle.std.specs.Option.{option_map};
-ghost use Rattle.plan_types.specs.Formats.{format_of};
+ghost use Rattle.formats.specs.Format.{format_of};
 ghost use Rattle.plan_types.specs.Plans.{IsPlan, section_at};
 ghost use Rattle.plan_types.specs.Views.{item_view, plan_view, section_view};
 
-use crate::format::Format;
 use crate::item::Item;
 use crate::laid::Laid;
 use crate::section::Section;
+use formats::Format;
 use manifest::Name;
 use std::marker::Model;
 

@@ -14,6 +14,8 @@ mod checked;
 #[cfg(test)]
 mod cramfs_checked;
 #[cfg(test)]
+mod each_format;
+#[cfg(test)]
 mod facts;
 #[cfg(test)]
 mod faults;

@@ -10,7 +10,8 @@ use Rattle.cramfs_format.specs.declared.order.Order.{Order}
 use Rattle.cramfs_format.specs.declared.order.Order.TheVariants.{Little, Big}
 use Rattle.cramfs_format.specs.Superblock.{order_of}
 use Rattle.cramfs_image.specs.declared.image.Parts.{Parts as CramfsParts}
-use Rattle.image_check.specs.Checked.{BeginsRomfs, BeginsCramfs, Shows}
+use Rattle.formats.specs.Begins.{BeginsRomfs, BeginsCramfs}
+use Rattle.image_check.specs.Checked.{Shows}
 use Rattle.image_check.specs.declared.any.Parts.{Parts}
 use Rattle.image_check.specs.declared.any.Parts.TheVariants.{Romfs, Cramfs}
 

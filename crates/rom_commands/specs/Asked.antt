@@ -2,11 +2,11 @@
 use Rattle.std.specs.Prelude.{ℕ, ◌+◌, ◌^◌, ◌≤◌, ◌++◌, Bool, true, false, not, List}
 use Rattle.rom_tree.specs.Listing.{list_text}
 use Rattle.image_check.specs.declared.any.AnyImage.{AnyImage}
-use Rattle.image_check.specs.Any.{any_view, report_of}
+use Rattle.formats.specs.Format.{name_of}
+use Rattle.image_check.specs.Any.{any_view, image_format, report_of}
 use Rattle.image_info.specs.Map.{map_text}
 use Rattle.image_info.specs.Info.{info_text}
 use Rattle.linux_misreads.specs.Misreads.{is_printed, misreads_text}
-use Rattle.rom_commands.specs.Formats.{format_of}
 use Rattle.rom_commands.specs.Room.{fits, room_text}
 use Rattle.rom_commands.specs.Lines.{ok_line}
 use Rattle.rom_commands.specs.declared.asked.Asked.{Asked}
@@ -16,7 +16,8 @@ use Rattle.rom_commands.specs.declared.asked.Asked.TheVariants.{Misreads, Facts,
 -- the text of an image: its format, references and depth; its list; its map; what Linux misreads in
 -- it; its facts; or its facts and whether it fits
 abbrev pub sound_text : Asked → AnyImage → List ℕ
-sound_text Report a = ok_line (format_of a) (report_of a).references (report_of a).depth
+sound_text Report a = ok_line (name_of (image_format a)) (report_of a).references
+    (report_of a).depth
 sound_text Listed a = list_text (any_view a).bytes (any_view a).tree
 sound_text (Map base) a = map_text base (any_view a).tree
 sound_text Misreads a = misreads_text a

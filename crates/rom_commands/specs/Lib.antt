@@ -2,7 +2,6 @@ pub mod Lines
 pub mod Endings
 pub mod Asked
 pub mod Answers
-pub mod Formats
 pub mod Hello
 pub mod Serving
 pub mod Refused

@@ -1,17 +1,9 @@
 -- Whether an image fits into a number of bytes: the lines after its facts. (This project's own.)
 use Rattle.std.specs.Prelude.{ℕ, ◌-◌, Bool, true, false, not, nat_lt, List, ◌++◌, codes}
-use Rattle.romfs_format.specs.Tree.{full_size}
-use Rattle.cramfs_format.specs.Superblock.{accessible_size}
-use Rattle.cramfs_image.specs.Reported.{order_in}
+use Rattle.image_check.specs.Any.{size_of}
 use Rattle.image_check.specs.declared.any.AnyImage.{AnyImage}
-use Rattle.image_check.specs.declared.any.AnyImage.TheVariants.{Romfs, Cramfs}
 use Rattle.image_info.specs.Gaps.{gaps_of}
 use Rattle.image_info.specs.Info.{number_line, plain_line}
-
--- the number of bytes of an image, as its superblock states it
-abbrev pub size_of : AnyImage → ℕ
-size_of (Romfs s) = full_size s.all.now
-size_of (Cramfs s) = accessible_size (order_in s) s.all.now
 
 -- an image has no more bytes than this
 abbrev pub fits : ℕ → AnyImage → Bool

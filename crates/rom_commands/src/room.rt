@@ -5,25 +5,12 @@ ghost use Rattle.rom_fields.specs.Written.{Puts, WritesText, sink};
 ghost use Rattle.image_info.specs.Gaps.{gaps_of, IsChecked};
 ghost use Rattle.image_info.specs.declared.info.InfoError.TheVariants as info;
 ghost use Rattle.image_info.specs.Info.{number_line};
-ghost use Rattle.rom_commands.specs.Room.{fits_word, room_lines, size_of};
+ghost use Rattle.rom_commands.specs.Room.{fits_word, room_lines};
 
-use cramfs_format::superblock::accessible_size;
 use image_check::AnyImage;
 use image_info::{InfoError, count_gaps};
 use rom_fields::{ByteWrite, Failed, put, put_long_decimal};
-use rom_tree::TreeImage;
-use romfs_format::superblock::stated_size;
 use std::alloc::Global;
-
-/// Returns the number of bytes of an image, as its superblock states it.
-pub fn image_size(image: &AnyImage<'_>) -> u64
-    ensures { result ≡ size_of image.now }
-{
-    match image {
-        AnyImage::Romfs(image) => stated_size(image.bytes()) as u64,
-        AnyImage::Cramfs(image) => accessible_size(image.parts().order, image.bytes()) as u64,
-    }
-}
 
 /// How many of these bytes are unused.
 pub(crate) fn free_bytes(alloc: Global, image: &AnyImage<'_>) -> Result<u64, InfoError>

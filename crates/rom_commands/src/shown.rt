@@ -11,12 +11,11 @@ ghost use Rattle.rom_commands.specs.Lines.{fault_line, ok_line};
 ghost use Rattle.rom_commands.specs.Asked.{sound_text, takes_fault, warns, Fits};
 ghost use Rattle.rom_commands.specs.Answers.{Ends, FaultEnds};
 ghost use Rattle.rom_commands.specs.Room.{fits, room_text};
-ghost use Rattle.rom_commands.specs.Formats.{format_of};
 ghost use Rattle.rom_commands.specs.declared.shown.Outcome.{Outcome};
 
 use crate::asked::Asked;
 use crate::fault::put_fault;
-use crate::room::{free_bytes, image_size, write_room};
+use crate::room::{free_bytes, write_room};
 use image_check::{AnyImage, check};
 use image_info::{InfoError, map, write_info};
 use linux_misreads::misreads;
@@ -83,16 +82,6 @@ pub(crate) fn write_fault_line<W: ByteWrite>(w: &mut W, number: u32, at: u32) ->
     if failed { Err(Failed) } else { Ok(()) }
 }
 
-/// The name of an image's format.
-fn format_name(image: &AnyImage) -> &'static [u8]
-    ensures { result.now ≡ format_of image.now }
-{
-    match image {
-        AnyImage::Romfs(_) => b"romfs",
-        AnyImage::Cramfs(image) => { if image.big() { b"cramfs-be" } else { b"cramfs" } }
-    }
-}
-
 /// Writes the line of a valid image.
 fn write_ok_line<W: ByteWrite>(w: &mut W, format: &[u8], report: Report) -> Result<(), Failed>
     ensures text { WritesText (W.output w.old).contents (W.output w.new).contents result
@@ -142,7 +131,7 @@ fn write_fit<W: ByteWrite>(
         (info_text file image.now ++ room_text limit image.now) result }
     ensures warns { IfOk result (λ b. b ≡ not (fits limit image.now)) }
 {
-    let (free, size) = (free_bytes(alloc, image)?, image_size(image));
+    let (free, size) = (free_bytes(alloc, image)?, u64::from(image.size()));
     match write_info(alloc, image, file, w) {
         Ok(()) => match write_room(w, free, size, limit) {
             Ok(()) => Ok(limit < size),
@@ -166,7 +155,7 @@ fn write_sound<W: ByteWrite>(
     ensures warns { IfOk result (λ b. b ≡ warns asked image.now) }
 {
     match asked {
-        Asked::Report => match write_ok_line(w, format_name(image), image.report()) {
+        Asked::Report => match write_ok_line(w, image.format().name().as_bytes(), image.report()) {
             Ok(()) => Ok(false),
             Err(_) => Err(InfoError::WriteFault),
         },

@@ -2,7 +2,7 @@
 use Rattle.std.proofs.Common.{◌<◌, ◌^◌, List, [], ◌∷◌, arith}
 use Rattle.std.specs.List.{AllByRecursion as Every}
 use Rattle.manifest_tree.specs.Tree.{What, a_leaf, a_link, a_directory}
-use Rattle.manifest_layout.specs.Format.{romfs}
+use Rattle.formats.specs.Format.{romfs}
 use Rattle.plan_rows.specs.Fits.{IsFit, FitsAs}
 use Rattle.plan_rows.specs.Rows.{Row}
 use Rattle.romfs_plan.specs.Rows.{IsFitRow, IsFitWhat}

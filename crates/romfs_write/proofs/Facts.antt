@@ -16,7 +16,8 @@ use Rattle.romfs_layout.specs.Items.{item_of, items_of, sections_from}
 use Rattle.romfs_layout.specs.Planned.{IsPlanned}
 use Rattle.romfs_layout.proofs.Image.{planned_headers}
 use Rattle.romfs_layout.proofs.Sectioned as in_romfs
-use Rattle.manifest_layout.specs.Format.{Format, romfs, len_of, sections_of}
+use Rattle.formats.specs.Format.{Format, romfs}
+use Rattle.manifest_layout.specs.Format.{len_of, sections_of}
 use Rattle.manifest_layout.specs.Format as of_format
 use Rattle.manifest_layout.specs.Misfit.{HasNoMisfit}
 use Rattle.manifest_layout.specs.Format.{IsPlannedBy}

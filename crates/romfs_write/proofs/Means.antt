@@ -30,7 +30,8 @@ use Rattle.romfs_write.specs.Known.{IsBody, IsRomfsPlan}
 use Rattle.manifest.specs.Grammar.{IsManifest}
 use Rattle.manifest.specs.Lines.{ManifestLines}
 use Rattle.manifest_tree.specs.Tree.{tree_of, root_of}
-use Rattle.manifest_layout.specs.Format.{romfs, layout_of}
+use Rattle.formats.specs.Format.{romfs}
+use Rattle.manifest_layout.specs.Format.{layout_of}
 use Rattle.romfs_layout.specs.Items.{items_of}
 use Rattle.romfs_layout.specs.Planned.{IsPlanned}
 use Rattle.romfs_layout.proofs.ReadBack.{length-padded_name}

@@ -4,7 +4,7 @@ ghost use Rattle.std.specs.Prelude.{get_or};
 ghost use Rattle.image_stream.specs.Segments.{fixed};
 ghost use Rattle.layout_terms.specs.Bodies.{item_at};
 ghost use Rattle.layout_terms.specs.Items.{section, super};
-ghost use Rattle.manifest_layout.specs.Format.{romfs};
+ghost use Rattle.formats.specs.Format.{romfs};
 ghost use Rattle.manifest_tree.specs.Names.{bytes_of};
 ghost use Rattle.plan_types.specs.Views.{fill_view, item_view, section_view};
 ghost use Rattle.romfs_format.specs.Record.{pad16};

@@ -297,9 +297,8 @@ pub fn run(reporter: &Reporter<'_>, bytes: &[u8], status: Status) -> Status {
     let Ok(image) = check(alloc, bytes, Limits::usual()) else {
         return status;
     };
-    let order = match &image {
-        AnyImage::Romfs(_) => return status,
-        AnyImage::Cramfs(image) => image.parts().order,
+    let Some(order) = image.format().order() else {
+        return status;
     };
     let Ok((all, paths)) = found(alloc, &image, order) else {
         return reporter.say(Failure::Memory);

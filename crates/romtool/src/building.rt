@@ -1,7 +1,7 @@
 //! Builds an image from a manifest and files.
 ghost use Rattle.std.specs.Prelude.{◌≡◌, ◌≤◌, ◌%◌, length, IfOk, IfSome};
 ghost use Rattle.manifest.specs.Lines.{sources_of};
-ghost use Rattle.plan_types.specs.Formats.{format_of};
+ghost use Rattle.formats.specs.Format.{format_of};
 ghost use Rattle.plan_types.specs.Plans.{IsPlanOf};
 
 use crate::beside::KeepError;
@@ -250,9 +250,10 @@ fn rule<'a>(asked: Build<'a>, names: &'a [&'a str]) -> Rule<'a> {
 /// How often each source is read whole: once to be written, and once before for a checksum of all
 /// bytes.
 fn passes(format: Format) -> u64 {
-    match format {
-        Format::Romfs => 1,
-        Format::Cramfs | Format::CramfsBig => 2,
+    if format.capacity().sums_all_bytes {
+        2
+    } else {
+        1
     }
 }
 

@@ -17,8 +17,8 @@ use image_check::check;
 use image_load::{Found, Front, Loaded};
 use program_streams::{Again, Ahead, Held};
 use rom_commands::{
-    Asked, Failure, Status, complain_of_fault, has_addresses, hello, image_size, print, print_file,
-    refuse, refuse_in, serve_on, serve_several_on,
+    Asked, Failure, Status, complain_of_fault, has_addresses, hello, print, print_file, refuse,
+    refuse_in, serve_on, serve_several_on,
 };
 use rom_faults::{CheckError, Fault};
 use rom_fields::{ByteRead, ByteWrite, Plain};
@@ -357,7 +357,7 @@ fn explain_size(reporter: &Reporter<'_>, name: &[u8], bytes: &[u8], limit: u64) 
     let Ok(image) = check(alloc, bytes, Limits::usual()) else {
         return;
     };
-    let size = image_size(&image);
+    let size = u64::from(image.size());
     let more = size.saturating_sub(limit);
     if let Ok(what) = format!(in alloc; "it has {size} bytes, {more} more than {limit}") {
         reporter.explain(name, &what);

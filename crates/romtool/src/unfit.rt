@@ -4,7 +4,6 @@ use build_commands::changes::{Changes, changes_of};
 use build_commands::inventory::NamedFile;
 use command_line::ScanAll;
 use manifest::Entry;
-use plan_types::Format;
 use rom_commands::{Failure, Status};
 use sentences::words::escaped;
 use std::alloc::{AllocError, Global};
@@ -66,15 +65,6 @@ fn counted(alloc: Global, count: u64, word: &str) -> Result<String, AllocError> 
     format!(in alloc; "{count} {word}{s}")
 }
 
-/// The word of a format.
-fn word_of(format: Format) -> &'static str {
-    match format {
-        Format::Romfs => "romfs",
-        Format::Cramfs => "cramfs",
-        Format::CramfsBig => "cramfs-be",
-    }
-}
-
 impl Unfit {
     /// Counts the changes of the file of a path.
     fn add(&mut self, alloc: Global, path: &[u8], changes: Changes) -> Result<(), AllocError> {
@@ -123,7 +113,7 @@ impl Unfit {
 
     fn try_explain(&self, reporter: &Reporter<'_>, scan: &ScanAll<'_>) -> Result<(), AllocError> {
         if let (Some(format), Some(place)) = (scan.format, scan.directories.first()) {
-            let format = word_of(format);
+            let format = format.name();
             self.explain_changed(reporter, place, format, scan.strict)?;
             self.explain_opened(reporter, place, format)?;
         }

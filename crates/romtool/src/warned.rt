@@ -2,7 +2,7 @@
 use crate::foreseen::{Warning, Warnings};
 use crate::origin::Origin;
 use crate::reporter::Reporter;
-use plan_types::{Body, Format, Plan};
+use plan_types::{Body, Plan};
 use sentences::words::shown;
 use std::alloc::AllocError;
 
@@ -95,7 +95,7 @@ fn shared_pages(plan: &Plan) -> u64 {
 
 /// Explains for how many files of cramfs Linux does not map the last page.
 pub fn explain_pages(reporter: &Reporter<'_>, plan: &Plan, out: &str) {
-    if !reporter.is_explained() || matches!(plan.format(), Format::Romfs) {
+    if !reporter.is_explained() || plan.format().order().is_none() {
         return;
     }
     let count = shared_pages(plan);

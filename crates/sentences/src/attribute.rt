@@ -1,13 +1,7 @@
 //! The attribute of a line that a format cannot hold.
+use formats::Format;
 use manifest::{Line, Word};
-use plan_types::Format;
 use std::alloc::{AllocError, Global};
-
-/// The highest owner in cramfs, and the highest device number in romfs.
-const MOST_OF_TWO_BYTES: u32 = 65_535;
-
-/// The highest group and the highest device number in cramfs.
-const MOST_OF_A_BYTE: u32 = 255;
 
 /// The modes that romfs has for what a line makes.
 fn romfs_modes(line: &Line) -> &'static str {
@@ -26,29 +20,22 @@ fn romfs_modes(line: &Line) -> &'static str {
 ///
 /// `OutOfMemory`.
 pub fn seen(alloc: Global, format: Format, line: &Line) -> Result<String, AllocError> {
-    let is_romfs = format == Format::Romfs;
-    let (owners, groups, devices, fitted) = if is_romfs {
-        (
-            0,
-            0,
-            MOST_OF_TWO_BYTES,
-            " (scan --all --for romfs makes it fit)",
-        )
-    } else {
-        let fitted = " (scan --all --for cramfs makes it fit)";
-        (MOST_OF_TWO_BYTES, MOST_OF_A_BYTE, MOST_OF_A_BYTE, fitted)
+    let most = format.capacity();
+    let fitted = match format.order() {
+        None => " (scan --all --for romfs makes it fit)",
+        Some(_) => " (scan --all --for cramfs makes it fit)",
     };
     for (name, value, most, fitted) in [
-        ("owner", line.uid, owners, fitted),
-        ("group", line.gid, groups, fitted),
-        ("major number", line.major, devices, ""),
-        ("minor number", line.minor, devices, ""),
+        ("owner", line.uid, most.owner, fitted),
+        ("group", line.gid, most.group, fitted),
+        ("major number", line.major, most.device, ""),
+        ("minor number", line.minor, most.device, ""),
     ] {
         if value > most {
             return format!(in alloc; "{name} {value}, at most {most}{fitted}");
         }
     }
-    if is_romfs {
+    if !most.has_modes {
         let modes = romfs_modes(line);
         return format!(in alloc; "mode {:04o}, romfs has {modes}{fitted}", line.mode);
     }

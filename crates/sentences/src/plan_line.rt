@@ -1,16 +1,13 @@
 //! The field of a manifest that does not fit a format, its value, and the valid values.
 use crate::attribute;
 use crate::words::shown;
+use formats::Format;
 use manifest::{Line, Manifest, Word};
 use plan_rows::misfit::{ATTRIBUTE, NAME_TOO_LONG, TOO_LARGE};
-use plan_types::Format;
 use std::alloc::{AllocError, Global};
 
-/// The most bytes of an image, and of a file in romfs.
+/// The most bytes of an image.
 const IMAGE_MOST: u64 = 1 << 28;
-
-/// The limit of the size of a file and of a list in cramfs, which are below it.
-const CRAMFS_LIMIT: u64 = 1 << 24;
 
 /// The most names on a path.
 const DEEPEST: usize = 64;
@@ -96,11 +93,7 @@ fn size(
     sizes: &[u64],
     line: &Line,
 ) -> Result<String, AllocError> {
-    let most = if format == Format::Romfs {
-        IMAGE_MOST
-    } else {
-        CRAMFS_LIMIT - 1
-    };
+    let most = format.capacity().file;
     let size = size_of(manifest, sizes, line.number);
     let source = shown(alloc, line.text.as_bytes())?;
     format!(in alloc; "{source} has {size} bytes, at most {most}")
@@ -125,14 +118,16 @@ pub fn seen(
     }
     let Some(line) = line_of(manifest, number) else {
         let len = manifest.volume().len();
-        return format!(in alloc; "the volume's name has {len} bytes, at most 16");
+        let most = format.capacity().volume.unwrap_or(len);
+        return format!(in alloc; "the volume's name has {len} bytes, at most {most}");
     };
     match kind {
         ATTRIBUTE => attribute::seen(alloc, format, line),
         TOO_LARGE => size(alloc, format, manifest, sizes, line),
         NAME_TOO_LONG => {
             let len = last_name(line.path.as_bytes()).len();
-            format!(in alloc; "the name has {len} bytes, at most 252")
+            let most = format.capacity().name.unwrap_or(len);
+            format!(in alloc; "the name has {len} bytes, at most {most}")
         }
         _ => shown(alloc, line.path.as_bytes()),
     }

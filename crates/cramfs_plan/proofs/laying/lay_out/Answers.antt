@@ -1,7 +1,7 @@
 use Rattle.std.proofs.Common.{◌≡◌, ◌||◌, ℕ, map, length, replicate, sym, ap, subst, ◌∙◌, arith}
 use Rattle.std.specs.List.{AllByRecursion as Every, list_any}
 use Rattle.std.proofs.lemmas.List.{length-map}
-use Rattle.manifest_layout.specs.Format.{cramfs}
+use Rattle.formats.specs.Format.{cramfs}
 use Rattle.plan_rows.specs.Fits.{IsFit}
 use Rattle.plan_rows.specs.Rows.{deepest, row_view, inode_view}
 use Rattle.cramfs_layout.specs.Layout.{size_of}

@@ -1,7 +1,7 @@
 use Rattle.std.proofs.Common.{List, ℕ, map, length, sym, ap, subst, ◌∙◌, arith, rules}
 use Rattle.plan_types.specs.Plans.{IsPlanOf}
 use Rattle.manifest_layout.specs.Format.{layout_of}
-use Rattle.plan_types.specs.Formats.{format_of}
+use Rattle.formats.specs.Format.{format_of}
 use Rattle.image_build.proofs.Answered.{image_of}
 use Rattle.image_build.proofs.Filled.{filled}
 use Rattle.image_build.specs.Builds.{IsGiven}

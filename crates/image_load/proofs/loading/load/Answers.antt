@@ -1,6 +1,6 @@
 use Rattle.std.proofs.Common.{rules, arith, ◌≡◌, ◌≤◌, length, subst, refl}
 use Rattle.std.proofs.lemmas.List.{places}
-use Rattle.image_check.specs.Reach.{Reaches, IsSumRefused}
+use Rattle.formats.specs.Reach.{Reaches, IsSumRefused}
 use Rattle.image_load.proofs.Fronts.{read_on, up_to, none_yet, whole, refusing, reach_least}
 use Rattle.image_load.proofs.loading.load.Goals as goal
 

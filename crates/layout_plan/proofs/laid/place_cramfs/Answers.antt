@@ -1,4 +1,4 @@
-use Rattle.manifest_layout.specs.Format.{cramfs}
+use Rattle.formats.specs.Format.{cramfs}
 use Rattle.manifest_tree.specs.Tree.{tree_of}
 use Rattle.layout_plan.proofs.Readying.{rows_are_fit, cramfs_laid}
 use Rattle.layout_plan.proofs.laid.place_cramfs.Goals as goal

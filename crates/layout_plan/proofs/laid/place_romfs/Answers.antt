@@ -1,5 +1,5 @@
 use Rattle.std.proofs.Common.{map}
-use Rattle.manifest_layout.specs.Format.{romfs}
+use Rattle.formats.specs.Format.{romfs}
 use Rattle.manifest_tree.specs.Tree.{tree_of}
 use Rattle.plan_rows.specs.Rows.{inode_view, row_view}
 use Rattle.romfs_plan.proofs.Fitting.{fitting}

@@ -3,10 +3,11 @@ use Rattle.std.specs.List.{AllByRecursion as Every}
 use Rattle.cramfs_layout.specs.Items as cramfs_items
 use Rattle.layout_terms.specs.Items.{Item, SectionsRise}
 use Rattle.plan_types.specs.Views.{item_view, section_view}
-use Rattle.manifest_layout.specs.Format.{cramfs, len_of, items_of, sections_of}
+use Rattle.formats.specs.Format.{cramfs}
+use Rattle.manifest_layout.specs.Format.{len_of, items_of, sections_of}
 use Rattle.manifest_layout.specs.Misfit.{HasNoMisfit}
 use Rattle.manifest_layout.proofs.Sectioned.{rise}
-use Rattle.plan_types.specs.Formats.{format_of}
+use Rattle.formats.specs.Format.{format_of}
 use Rattle.layout_plan.proofs.Readying.{volume_short, names_short, in_cramfs}
 use Rattle.layout_plan.proofs.laid.sections.Goals as goal
 

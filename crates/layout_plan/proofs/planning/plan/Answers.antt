@@ -5,7 +5,7 @@ use Rattle.manifest_layout.specs.Format.{len_of, items_of}
 use Rattle.manifest_layout.specs.Misfit.{HasLineMisfit, HasWholeMisfit, HasNoMisfit, line_misfit, whole_misfit}
 use Rattle.plan_types.specs.Plans.{IsPlanOf}
 use Rattle.plan_types.specs.Views.{item_view}
-use Rattle.plan_types.specs.Formats.{format_of}
+use Rattle.formats.specs.Format.{format_of}
 use Rattle.plan_rows.specs.Misfits.{misfit_fault}
 use Rattle.plan_rows.specs.Rows.{inode_view, row_view}
 use Rattle.layout_plan.specs.Ready.{IsReady}

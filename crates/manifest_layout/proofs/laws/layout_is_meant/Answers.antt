@@ -4,7 +4,8 @@ use Rattle.manifest.specs.Lines.{ManifestLines}
 use Rattle.manifest_tree.specs.Meant.{IsMeant}
 use Rattle.manifest_tree.specs.Tree.{root_of, tree_of}
 use Rattle.rom_tree.specs.Tree.{Node}
-use Rattle.manifest_layout.specs.Format.{Format, romfs, cramfs, HasUsualTree, layout_of}
+use Rattle.formats.specs.Format.{Format, romfs, cramfs}
+use Rattle.manifest_layout.specs.Format.{HasUsualTree, layout_of}
 use Rattle.manifest_layout.specs.Misfit.{HasNoMisfit}
 use Rattle.manifest_layout.proofs.laws.layout_is_meant.Goals as goal
 

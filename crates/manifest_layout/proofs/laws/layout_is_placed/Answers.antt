@@ -3,7 +3,8 @@ use Rattle.manifest.specs.Grammar.{IsManifest}
 use Rattle.manifest.specs.Lines.{ManifestLines}
 use Rattle.manifest_tree.specs.Tree.{root_of, tree_of}
 use Rattle.rom_tree.specs.Tree.{Node}
-use Rattle.manifest_layout.specs.Format.{Format, romfs, cramfs, HasUsualTree, layout_of}
+use Rattle.formats.specs.Format.{Format, romfs, cramfs}
+use Rattle.manifest_layout.specs.Format.{HasUsualTree, layout_of}
 use Rattle.manifest_layout.specs.Misfit.{HasNoMisfit}
 use Rattle.manifest_layout.specs.Placement.{CopiesStand, HasVolume, IsPlaced}
 use Rattle.manifest_layout.proofs.Placing.{placed, files_apart, files_shared, named_in_cramfs}

@@ -3,7 +3,8 @@ use Rattle.manifest.specs.Grammar.{IsManifest}
 use Rattle.manifest.specs.Lines.{ManifestLines}
 use Rattle.manifest_tree.specs.Tree.{root_of, tree_of}
 use Rattle.manifest_layout.specs.Composed.{composed_of}
-use Rattle.manifest_layout.specs.Format.{Format, romfs, cramfs, layout_of}
+use Rattle.formats.specs.Format.{Format, romfs, cramfs}
+use Rattle.manifest_layout.specs.Format.{layout_of}
 use Rattle.manifest_layout.specs.Misfit.{HasNoMisfit}
 use Rattle.manifest_layout.proofs.Sourced.{align_of, sourced}
 use Rattle.manifest_layout.proofs.laws.sections_make_layout.Goals as goal

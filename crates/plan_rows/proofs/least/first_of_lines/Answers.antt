@@ -1,5 +1,5 @@
 use Rattle.std.proofs.Common.{sym, ◌∙◌}
-use Rattle.plan_types.specs.Formats.{format_of}
+use Rattle.formats.specs.Format.{format_of}
 use Rattle.plan_rows.proofs.Firsts.{misfit_at}
 use Rattle.plan_rows.proofs.Paths.{path_at}
 use Rattle.plan_rows.proofs.least.first_of_lines.Goals as goal

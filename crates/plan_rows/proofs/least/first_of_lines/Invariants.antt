@@ -1,7 +1,7 @@
 use Rattle.std.proofs.Common.{◌≡◌, drop, List, ℕ}
 use Rattle.manifest_layout.specs.Tests.{of_lines}
 use Rattle.plan_rows.specs.Files.{IsOf}
-use Rattle.plan_types.specs.Formats.{format_of}
+use Rattle.formats.specs.Format.{format_of}
 use Rattle.plan_rows.proofs.least.first_of_lines.Given as goal
 
 abbrev pub invariant-loop-line : goal.invariant-loop-line

@@ -2,7 +2,7 @@ use Rattle.std.proofs.Common.{subst, sym}
 use Rattle.record_forest.specs.Faults.{IsLeastFaultOf}
 use Rattle.manifest_layout.specs.Misfit.{HasLineMisfit}
 use Rattle.manifest_layout.proofs.Decided.{least_line_is}
-use Rattle.plan_types.specs.Formats.{format_of}
+use Rattle.formats.specs.Format.{format_of}
 use Rattle.plan_rows.proofs.least.least_of_lines.Goals as goal
 
 pub returns-clause-least : goal.returns-clause-least

@@ -1,6 +1,5 @@
-use Rattle.std.proofs.lemmas.Grind.{common_steps}
-use Rattle.std.proofs.Common.{arith}
+use Rattle.plan_rows.proofs.Capacities.{large_is}
 use Rattle.plan_rows.proofs.lines.is_large.Goals as goal
 
-pub returns-in-Romfs : goal.returns-in-Romfs
-returns-in-Romfs c = grind (arith, common_steps)
+pub returns : goal.returns
+returns c = rw c.capacity.ensures (large_is c.args.format c.args.size)

@@ -1,6 +1,5 @@
-use Rattle.std.proofs.lemmas.Grind.{common_steps}
-use Rattle.std.proofs.Common.{arith}
+use Rattle.plan_rows.proofs.Capacities.{long_is}
 use Rattle.plan_rows.proofs.lines.is_long.Goals as goal
 
-pub returns-in-Cramfs : goal.returns-in-Cramfs
-returns-in-Cramfs c = grind (arith, common_steps)
+pub returns : goal.returns
+returns c = long_is c.args.format c.args.len c.is_above.result (rw c.capacity.ensures at c.is_above.ensures)

@@ -2,7 +2,7 @@ use Rattle.std.proofs.Common.{ap, ◌∙◌}
 use Rattle.manifest_layout.specs.Tests.{is_large, is_long}
 use Rattle.manifest_layout.specs.Misfit.{name_len}
 use Rattle.manifest.specs.Paths.{names_of}
-use Rattle.plan_types.specs.Formats.{format_of}
+use Rattle.formats.specs.Format.{format_of}
 use Rattle.plan_rows.proofs.Numbers.{number_of_line_is}
 use Rattle.plan_rows.proofs.lines.number_of_line.Goals as goal
 

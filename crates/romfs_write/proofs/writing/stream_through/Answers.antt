@@ -6,7 +6,7 @@ use Rattle.image_stream.specs.Outcomes.{IsStreamFault, IsStreamed}
 use Rattle.image_stream.specs.Segments.{IsLaidOut}
 use Rattle.image_stream.specs.WordSums.{balance_of}
 use Rattle.plan_types.specs.Plans.{Planned, IsPlanOf}
-use Rattle.manifest_layout.specs.Format.{romfs}
+use Rattle.formats.specs.Format.{romfs}
 use Rattle.romfs_write.specs.Form.{form_of}
 use Rattle.romfs_write.specs.Known.{IsRomfsPlan}
 use Rattle.romfs_write.proofs.Laid.{laid_out}

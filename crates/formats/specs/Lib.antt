@@ -1,0 +1,4 @@
+pub mod Begins
+pub mod Capacity
+pub mod Format
+pub mod Reach
