@@ -1,4 +1,4 @@
--- The facts facts of the plan of a manifest.
+-- The known facts of the plan of a manifest.
 use Rattle.std.proofs.Common.{◌≡◌, ℕ, ◌^◌, ◌<◌, List, [], ◌++◌, map, length, get_or, refl, sym, subst, arith}
 use Rattle.cramfs_format.specs.declared.order.Order.{Order}
 use Rattle.manifest.specs.Grammar.{IsManifest}

@@ -1,5 +1,5 @@
 -- `form_of`: the plan of a cramfs image, in either byte order, as a superblock and segments, before
--- the contents of its files are facts. (This project's own; the bytes are those of the layout.)
+-- the contents of its files are known. (This project's own; the bytes are those of the layout.)
 use Rattle.std.specs.Prelude.{ℕ, ◌-◌, ◌/◌, List, [], ◌++◌, map, length, drop, replicate}
 use Rattle.cramfs_format.specs.declared.order.Order.{Order}
 use Rattle.cramfs_format.specs.Superblock.{magic, signature}
@@ -46,7 +46,7 @@ segment_by o is place len (contents_of file) = content place len file
 abbrev pub segment_of : Order → List Item → Section → Segment
 segment_of o is s = segment_by o is s.place s.len s.body
 
--- the image of a plan, before the contents of its files are facts
+-- the image of a plan, before the contents of its files are known
 abbrev pub form_of : Order → Planned → Form
 form_of o p = record {
   head = λ crc.

@@ -1,4 +1,4 @@
--- `IsCramfsPlan`: the facts facts of the plan of a cramfs image. (This project's own.)
+-- `IsCramfsPlan`: the known facts of the plan of a cramfs image. (This project's own.)
 use Rattle.std.specs.Prelude.{◌≡◌, ℕ, ◌+◌, ◌*◌, ◌^◌, ◌<◌, ◌≤◌, List, ◌∷◌, length, drop, get_or}
 use Rattle.std.specs.List.{AllByRecursion as Every}
 use Rattle.cramfs_format.specs.Inode.{block_count}

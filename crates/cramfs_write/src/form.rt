@@ -26,7 +26,7 @@ pub struct CramfsForm<'p> {
     ghost cramfs: { plan.now.format ≡ cramfs order },
 }
 
-/// Shows the facts facts of the plan of a cramfs image.
+/// Shows the known facts of the plan of a cramfs image.
 pub fn facts(order: Order, plan: &Plan)
     requires { plan.now.format ≡ cramfs order }
     ensures plan { IsCramfsPlan plan.now }

@@ -46,13 +46,13 @@ pub fn write(plan: &Plan, contents: &Contents<'_>, out: &mut [u8]) -> Result<(),
 /// Writes the image of a plan through a buffer of the caller's, without taking memory, and flushes
 /// the writer. `image_stream::stream_through` describes how the sources are read.
 ///
-/// At `Ok`, exactly the layout was written, if the contents of the sources are facts. Otherwise a
+/// At `Ok`, exactly the layout was written, if the contents of the sources are known. Otherwise a
 /// whole image was written, with some contents of the planned sizes and the crc of exactly these
 /// bytes.
 ///
 /// # Errors
 ///
-/// `StreamError` has the reasons. If the contents of the sources are facts and have the planned
+/// `StreamError` has the reasons. If the contents of the sources are known and have the planned
 /// sizes, a prefix of the layout was written.
 pub fn stream_through<S: Sources, W: ByteWrite>(
     plan: &Plan,

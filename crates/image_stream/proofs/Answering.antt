@@ -8,13 +8,13 @@ use Rattle.std.proofs.lemmas.List.{take_all, drop_all}
 use Rattle.std.specs.Io.KnownBytes.{Appends}
 use Rattle.std.specs.Prelude.{Result, Ok, Err, OnOk}
 use Rattle.image_stream.specs.declared.outline.Outline.{Outline}
-use Rattle.image_stream.specs.Sources.{content_of, IfKnown}
+use Rattle.image_stream.specs.Sources.{content_of}
 use Rattle.image_stream.specs.Segments.{Segment, fixed, content, place, len, segment_at, outline, zeros, IsBody}
 use Rattle.image_stream.specs.Segments.{IsImage}
 use Rattle.image_stream.specs.Outcomes.{FrontSized}
 use Rattle.image_stream.specs.Answers.{Answer, answer, Logs, Grew, AreOf, AreReads, IsBodyRead, IsImageRead}
 use Rattle.image_stream.specs.Steps.{IsFront, IsFrontRead, IsPiece, IsPieceRead, IsNext, IsNextRead, IsDone, IsDoneRead}
-use Rattle.image_stream.specs.Steps.{Gone, Read}
+use Rattle.image_stream.specs.Steps.{Gone, Read, Sent}
 use Rattle.image_stream.proofs.Fronts.{gone_more, gone_none, front_more, piece_known}
 use Rattle.image_stream.proofs.Images.{done_next, drop_part}
 
@@ -25,9 +25,6 @@ logs_none was = λ log h. subst was (sym (append-nil log)) h
 pub logs_join : (was mid is : List Answer → Type 0) (one two : List Answer) → Logs was mid one → Logs mid is two
     → Logs was is (one ++ two)
 logs_join was mid is one two f g = λ log h. subst is (append_assoc log one two) (g (log ++ one) (f log h))
-
-pub grew_none : (was : List Answer → Type 0) → Grew was was
-grew_none was = ([], logs_none was)
 
 pub grew_join : (was mid is : List Answer → Type 0) → Grew was mid → Grew mid is → Grew was is
 grew_join was mid is f g = (f.0 ++ g.0, logs_join was mid is f.0 g.0 f.1 g.1)
@@ -138,65 +135,63 @@ piece_by_fill (fixed p bs) s k xs e g h = (refl, h p bs refl)
 piece_by_fill (content p n f) s k xs e g h = absurd (cc)
 
 -- more bytes go out, for which more was read
-module _ (P Q : List ℕ → Type 0) (R T : List Answer → List ℕ → Type 0) (a b c : Option (List ℕ))
+module _ (All : Type 0) (P Q : List ℕ → Type 0) (R T : List Answer → List ℕ → Type 0) (a b c : Option (List ℕ))
     (Was Is Next : List ℕ → Type 0) (was mid is : List Answer → Type 0) where
-  pub gone_read : (ys : List ℕ) (more : List Answer) → Gone (λ xs. P xs × Read R was mid xs) a b Was Is
+  pub sent_more : (ys : List ℕ) (more : List Answer) → Sent All P R was mid a b Was Is
       → ((xs : List ℕ) → P xs → Q (xs ++ ys))
-      → ((answers : List Answer) (xs : List ℕ) → R answers xs → T (answers ++ more) (xs ++ ys)) → Logs mid is more
-      → Appends b c ys
-      → ((xs : List ℕ) → Is xs → Next (xs ++ ys)) → Gone (λ xs. Q xs × Read T was is xs) a c Was Next
-  gone_read ys more h q t l w k =
-      gone_more (λ xs. P xs × Read R was mid xs) (λ xs. Q xs × Read T was is xs) a b c Was Is Next ys h
+      → ((answers : List Answer) (xs : List ℕ) → R answers xs → All → T (answers ++ more) (xs ++ ys))
+      → Logs mid is more → Appends b c ys → ((xs : List ℕ) → Is xs → Next (xs ++ ys)) → Sent All Q T was is a c Was Next
+  sent_more ys more h q t l w k =
+      gone_more (λ xs. P xs × Read (λ answers zs. All → R answers zs) was mid xs)
+      (λ xs. Q xs × Read (λ answers zs. All → T answers zs) was is xs) a b c Was Is Next ys h
       (λ xs v. (
         q xs v.0,
         record {
           answers = v.1.answers ++ more;
-          are = t v.1.answers xs v.1.are;
+          are = λ all. t v.1.answers xs (v.1.are all) all;
           logged = logs_join was mid is v.1.answers more v.1.logged l;
         },
       ))
       w k
 
 -- nothing went out yet
-pub gone_none_read : (P : List ℕ → Type 0) (R : List Answer → List ℕ → Type 0) (a : Option (List ℕ))
-    (Is : List ℕ → Type 0) (was : List Answer → Type 0) → P [] → R [] []
-    → Gone (λ xs. P xs × Read R was was xs) a a Is Is
-gone_none_read P R a Is was h r =
-    gone_none (λ xs. P xs × Read R was was xs) a Is (h, record { answers = []; are = r; logged = logs_none was })
+pub sent_none : (All : Type 0) (P : List ℕ → Type 0) (R : List Answer → List ℕ → Type 0) (a : Option (List ℕ))
+    (Is : List ℕ → Type 0) (was : List Answer → Type 0) → P [] → R [] [] → Sent All P R was was a a Is Is
+sent_none All P R a Is was h r =
+    gone_none (λ xs. P xs × Read (λ answers zs. All → R answers zs) was was xs) a Is
+    (h, record { answers = []; are = λ _. r; logged = logs_none was })
 
-pub gone_piece_read : (known known' : Option (List (List ℕ))) (p : Segment) (k n : ℕ) (a b c : Option (List ℕ))
+pub sent_piece : (All : Type 0) (known known' : Option (List (List ℕ))) (p : Segment) (k n : ℕ)
+    (a b c : Option (List ℕ))
     (Was Is Next : List ℕ → Type 0) (was mid is : List Answer → Type 0) (ys : List ℕ) → known' ≡ known → length ys ≡ n
-    → Gone (λ xs. IsFront known p k xs × Read (λ answers zs. IsFrontRead p k answers zs) was mid xs) a b Was Is
-    → IsPiece known' p k ys
-    → Read (λ answers zs. IsPieceRead p k answers zs) mid is ys → Appends b c ys
-    → ((xs : List ℕ) → Is xs → Next (xs ++ ys))
-    → Gone (λ xs. IsFront known p (k + n) xs
-    × Read (λ answers zs. IsFrontRead p (k + n) answers zs) was is xs) a c Was Next
-gone_piece_read known known' p k n a b c Was Is Next was mid is ys e m h q r w s =
+    → Sent All (IsFront known p k) (IsFrontRead p k) was mid a b Was Is → IsPiece known' p k ys
+    → Read (IsPieceRead p k) mid is ys → Appends b c ys → ((xs : List ℕ) → Is xs → Next (xs ++ ys))
+    → Sent All (IsFront known p (k + n)) (IsFrontRead p (k + n)) was is a c Was Next
+sent_piece All known known' p k n a b c Was Is Next was mid is ys e m h q r w s =
     let piece = piece_known known known' p k ys e q in
-    gone_read (IsFront known p k) (IsFront known p (k + n)) (λ answers zs. IsFrontRead p k answers zs)
-    (λ answers zs. IsFrontRead p (k + n) answers zs) a b c Was Is Next was mid is ys r.answers h
+    sent_more All (IsFront known p k) (IsFront known p (k + n)) (IsFrontRead p k) (IsFrontRead p (k + n)) a b c
+    Was Is Next was mid is ys r.answers h
     (λ xs v. let F : ℕ → Type 0 = λ z. IsFront known p (k + z) (xs ++ ys) in subst F m
     (front_more known p xs ys k v piece))
-    (λ answers xs v. let F : ℕ → Type 0 = λ z. IsFrontRead p (k + z) (answers ++ r.answers) (xs ++ ys) in subst F m
-    (front_more_read p answers r.answers xs ys k v r.are))
+    (λ answers xs v _. let F : ℕ → Type 0 = λ z. IsFrontRead p (k + z) (answers ++ r.answers) (xs ++ ys) in
+    subst F m (front_more_read p answers r.answers xs ys k v r.are))
     r.logged w s
 
 -- the zeros before a segment, and it
-pub gone_segment_read : (known : Option (List (List ℕ))) (at k : ℕ) (p : Segment) (a b c : Option (List ℕ))
+pub sent_segment : (All : Type 0) (known : Option (List (List ℕ))) (at k : ℕ) (p : Segment) (a b c : Option (List ℕ))
     (Was Is Next : List ℕ → Type 0) (was is : List Answer → Type 0) → k ≡ place p
     → Gone (λ xs. xs ≡ zeros (k - at)) a b Was Is
-    → Gone (λ xs. IsBody known p xs × Read (λ answers zs. IsBodyRead answers p zs) was is xs) b c Is Next
-    → Gone (λ xs. IsNext known at p xs × Read (λ answers zs. IsNextRead at p answers zs) was is xs) a c Was Next
-gone_segment_read known at k p a b c Was Is Next was is e z n =
+    → Sent All (IsBody known p) (λ answers. IsBodyRead answers p) was is b c Is Next
+    → Sent All (IsNext known at p) (IsNextRead at p) was is a c Was Next
+sent_segment All known at k p a b c Was Is Next was is e z n =
     let gap : (xs : List ℕ) → xs ≡ zeros (k - at) → xs ++ n.bytes ≡ zeros (place p - at) ++ n.bytes =
     λ xs v. ap (λ (y : List ℕ). y ++ n.bytes) (v ∙ ap (λ (j : ℕ). zeros (j - at)) e) in
     gone_more (λ xs. xs ≡ zeros (k - at))
-    (λ xs. IsNext known at p xs × Read
-    (λ answers zs. IsNextRead at p answers zs) was is xs) a b c Was Is Next n.bytes z
+    (λ xs. IsNext known at p xs × Read (λ answers zs. All → IsNextRead at p answers zs) was is xs) a b c
+    Was Is Next n.bytes z
     (λ xs v. (
       record { body = n.bytes; stands = n.are.0; all = gap xs v },
-      record { answers = n.are.1.answers; are = (n.bytes, n.are.1.are, gap xs v); logged = n.are.1.logged },
+      record { answers = n.are.1.answers; are = λ all. (n.bytes, n.are.1.are all, gap xs v); logged = n.are.1.logged },
     ))
     n.written n.added
 
@@ -218,49 +213,45 @@ done_next_read start parts end at p ps one two xs ys h n = λ later rest k.
     subst J (sym (append_assoc one two later))
     (subst I (sym split) (h (two ++ later) (gap ++ (body ++ rest)) (two, later, body, rest, refl, n.1, k, refl)))
 
-pub gone_next_read : (known known' : Option (List (List ℕ))) (start : ℕ) (parts : List Segment) (end at i : ℕ)
+pub sent_next : (All : Type 0) (known known' : Option (List (List ℕ))) (start : ℕ) (parts : List Segment) (end at i : ℕ)
     (a b c : Option (List ℕ)) (Was Is Next : List ℕ → Type 0) (was mid is : List Answer → Type 0) → known' ≡ known
     → i < length parts
-    → Gone (λ xs. IsDone known start parts end at (drop i parts) xs
-    × Read (λ answers zs. IsDoneRead start parts end at (drop i parts) answers zs) was mid xs) a b Was Is
-    → Gone (λ xs. IsNext known' at (segment_at parts i) xs
-    × Read (λ answers zs. IsNextRead at (segment_at parts i) answers zs) mid is xs) b c Is Next
-    → Gone (λ xs. IsDone known start parts end (place (segment_at parts i) + len (segment_at parts i))
-    (drop (i + 1) parts) xs
-    × Read (λ answers zs. IsDoneRead start parts end (place (segment_at parts i) + len (segment_at parts i))
-    (drop (i + 1) parts) answers zs) was is xs) a c Was Next
-gone_next_read known known' start parts end at i a b c Was Is Next was mid is e small h n =
+    → Sent All (IsDone known start parts end at (drop i parts)) (IsDoneRead start parts end at (drop i parts))
+    was mid a b Was Is
+    → Sent All (IsNext known' at (segment_at parts i)) (IsNextRead at (segment_at parts i)) mid is b c Is Next
+    → Sent All
+    (IsDone known start parts end (place (segment_at parts i) + len (segment_at parts i)) (drop (i + 1) parts))
+    (IsDoneRead start parts end (place (segment_at parts i) + len (segment_at parts i)) (drop (i + 1) parts))
+    was is a c Was Next
+sent_next All known known' start parts end at i a b c Was Is Next was mid is e small h n =
     let p = segment_at parts i in
     let ps = drop (i + 1) parts in
     let T : Option (List (List ℕ)) → Type 0 = λ v. IsNext v at p n.bytes in
     let split = drop_part parts i small in
-    gone_read (IsDone known start parts end at (drop i parts)) (IsDone known start parts end (place p + len p) ps)
-    (λ answers zs. IsDoneRead start parts end at (drop i parts) answers zs)
-    (λ answers zs. IsDoneRead start parts end
-    (place p + len p) ps answers zs) a b c Was Is Next was mid is n.bytes n.are.1.answers h
+    sent_more All (IsDone known start parts end at (drop i parts)) (IsDone known start parts end (place p + len p) ps)
+    (IsDoneRead start parts end at (drop i parts)) (IsDoneRead start parts end (place p + len p) ps) a b c
+    Was Is Next was mid is n.bytes n.are.1.answers h
     (λ xs v. done_next known start parts end at p ps xs n.bytes
     (let S : List Segment → Type 0 = λ z. IsDone known start parts end at z xs in subst S split v)
     (subst T e n.are.0))
-    (λ answers xs v. done_next_read start parts end at p ps answers n.are.1.answers xs n.bytes
+    (λ answers xs v all. done_next_read start parts end at p ps answers n.are.1.answers xs n.bytes
     (let S : List Segment → Type 0 = λ z. IsDoneRead start parts end at z answers xs in subst S split v)
-    n.are.1.are)
+    (n.are.1.are all))
     n.are.1.logged n.written n.added
 
 -- zeros to the end
-pub gone_all_read : (known : Option (List (List ℕ))) (start : ℕ) (parts : List Segment) (end at i : ℕ)
+pub sent_all : (All : Type 0) (known : Option (List (List ℕ))) (start : ℕ) (parts : List Segment) (end at i : ℕ)
     (a b c : Option (List ℕ)) (Was Is Next : List ℕ → Type 0) (was is : List Answer → Type 0) → i ≡ length parts
-    → Gone (λ xs. IsDone known start parts end at (drop i parts) xs
-    × Read (λ answers zs. IsDoneRead start parts end at (drop i parts) answers zs) was is xs) a b Was Is
-    → Gone (λ xs. xs ≡ zeros (end - at)) b c Is Next
-    → Gone (λ xs. IsImage known start parts end xs
-    × Read (λ answers zs. IsImageRead answers start parts end zs) was is xs) a c Was Next
-gone_all_read known start parts end at i a b c Was Is Next was is e h n =
+    → Sent All (IsDone known start parts end at (drop i parts)) (IsDoneRead start parts end at (drop i parts))
+    was is a b Was Is → Gone (λ xs. xs ≡ zeros (end - at)) b c Is Next
+    → Sent All (IsImage known start parts end) (λ answers. IsImageRead answers start parts end) was is a c Was Next
+sent_all All known start parts end at i a b c Was Is Next was is e h n =
     let none : drop i parts ≡ [] = drop_all i parts (omega arith) in
-    gone_read (IsDone known start parts end at (drop i parts)) (IsImage known start parts end)
-    (λ answers zs. IsDoneRead start parts end at (drop i parts) answers zs)
-    (λ answers zs. IsImageRead answers start parts end zs) a b c Was Is Next was is is n.bytes [] h
+    sent_more All (IsDone known start parts end at (drop i parts)) (IsImage known start parts end)
+    (IsDoneRead start parts end at (drop i parts)) (λ answers. IsImageRead answers start parts end) a b c
+    Was Is Next was is is n.bytes [] h
     (λ xs v. v.more n.bytes (let S : List Segment
     → Type 0 = λ z. IsImage known at z end n.bytes in subst S (sym none) n.are))
-    (λ answers xs v. v [] n.bytes (let S : List Segment
+    (λ answers xs v _. v [] n.bytes (let S : List Segment
     → Type 0 = λ z. IsImageRead [] at z end n.bytes in subst S (sym none) (refl, n.are)))
     (logs_none is) n.written n.added

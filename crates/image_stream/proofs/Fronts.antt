@@ -47,7 +47,7 @@ rest_within c xs k n h e =
     let s : k + (n - k) ≡ n = omega arith in
     ap (λ (v : ℕ). take v c) (sym s) ∙ take-add k (n - k) c ∙ ap (λ (v : List ℕ). v ++ take (n - k) (drop k c)) (sym e)
 
--- if the bytes are facts, the rest of the part
+-- if the bytes are known, the rest of the part
 pub front_rest : (known : Option (List (List ℕ))) (p : Segment) (xs : List ℕ) (k : ℕ) (cs : List (List ℕ))
     → known ≡ Some cs → k ≤ len p → IsFront known p k xs → (rest : List ℕ) × (bytes_of cs p ≡ xs ++ rest)
 front_rest known (fixed p bs) xs k cs is small h = (drop k bs, rest_of bs xs k h)
@@ -131,17 +131,6 @@ gone_none P a Is h = record {
   written = appends_none a;
   added = λ xs v. let R : List ℕ → Type 0 = λ z. Is z in subst R (sym (append-nil xs)) v;
 }
-
-pub gone_piece : (known known' : Option (List (List ℕ))) (p : Segment) (k n : ℕ) (a b c : Option (List ℕ))
-    (Was Is Next : List ℕ → Type 0) (ys : List ℕ) → known' ≡ known → length ys ≡ n → Gone (IsFront known p k) a b Was Is
-    → IsPiece known' p k ys → Appends b c ys
-    → ((xs : List ℕ) → Is xs → Next (xs ++ ys)) → Gone (IsFront known p (k + n)) a c Was Next
-gone_piece known known' p k n a b c Was Is Next ys e m h q w s =
-    let T : Option (List (List ℕ)) → Type 0 = λ v. IsPiece v p k ys in
-    let piece : IsPiece known p k ys = subst T e q in
-    gone_more (IsFront known p k) (IsFront known p (k + n)) a b c Was Is Next ys h
-    (λ xs v. let R : ℕ → Type 0 = λ z. IsFront known p (k + z) (xs ++ ys) in subst R m
-    (front_more known p xs ys k v piece)) w s
 
 pub piece_known : (known known' : Option (List (List ℕ))) (p : Segment) (k : ℕ) (ys : List ℕ) → known' ≡ known
     → IsPiece known' p k ys → IsPiece known p k ys

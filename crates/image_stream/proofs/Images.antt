@@ -9,10 +9,9 @@ use Rattle.rom_fields.proofs.Joins.{front_after, front_first}
 use Rattle.image_stream.specs.Sources.{IfKnown}
 use Rattle.image_stream.specs.Segments.{Segment, fixed, content, place, len, segment_at, bytes_of, IsBody, zeros}
 use Rattle.image_stream.specs.Segments.{SegmentsRise, IsImage, image_from}
-use Rattle.image_stream.specs.Steps.{IsNext, next_bytes, IsDone, Gone}
-use Rattle.image_stream.proofs.Fronts.{gone_more}
+use Rattle.image_stream.specs.Steps.{IsNext, next_bytes, IsDone}
 
--- if the contents are facts, so are the bytes
+-- if the contents are known, so are the bytes
 pub body_known : (known : Option (List (List ℕ))) (p : Segment) (xs : List ℕ) (cs : List (List ℕ)) → known ≡ Some cs
     → IsBody known p xs → xs ≡ bytes_of cs p
 body_known known (fixed p bs) xs cs is h = h
@@ -55,35 +54,6 @@ done_next known start parts end at p ps xs ys h n =
           (body_known known p n.body cs is n.stands) ∙ h.facts cs is;
     }
 
-pub gone_next : (known known' : Option (List (List ℕ))) (start : ℕ) (parts : List Segment) (end at i : ℕ)
-    (a b c : Option (List ℕ)) (Was Is Next : List ℕ → Type 0) → known' ≡ known → i < length parts
-    → Gone (IsDone known start parts end at (drop i parts)) a b Was Is
-    → Gone (IsNext known' at (segment_at parts i)) b c Is Next
-    → Gone (IsDone known start parts end (place (segment_at parts i) + len (segment_at parts i))
-    (drop (i + 1) parts)) a c Was Next
-gone_next known known' start parts end at i a b c Was Is Next e small h n =
-    let T : Option (List (List ℕ)) → Type 0 = λ v. IsNext v at (segment_at parts i) n.bytes in
-    let D : List Segment → List ℕ → Type 0 = λ v xs. IsDone known start parts end at v xs in
-    gone_more (IsDone known start parts end at (drop i parts))
-    (IsDone known start parts end (place (segment_at parts i) + len (segment_at parts i))
-    (drop (i + 1) parts)) a b c Was Is Next n.bytes h
-    (λ xs v. done_next known start parts end at (segment_at parts i) (drop (i + 1) parts) xs n.bytes
-    (let S : List Segment → Type 0 = λ z. D z xs in subst S (drop_part parts i small) v) (subst T e n.are))
-    n.written n.added
-
--- zeros to the end
-pub gone_all : (known : Option (List (List ℕ))) (start : ℕ) (parts : List Segment) (end at i : ℕ)
-    (a b c : Option (List ℕ)) (Was Is Next : List ℕ → Type 0) → i ≡ length parts
-    → Gone (IsDone known start parts end at (drop i parts)) a b Was Is → Gone (λ xs. xs ≡ zeros (end - at)) b c Is Next
-    → Gone (IsImage known start parts end) a c Was Next
-gone_all known start parts end at i a b c Was Is Next e h n =
-    let none : drop i parts ≡ [] = drop_all i parts (omega arith) in
-    gone_more (IsDone known start parts end at (drop i parts))
-    (IsImage known start parts end) a b c Was Is Next n.bytes h
-    (λ xs v. v.more n.bytes (let S : List Segment
-    → Type 0 = λ z. IsImage known at z end n.bytes in subst S (sym none) n.are))
-    n.written n.added
-
 -- a front of the next segment is one of the image
 pub broken_next : (known known' : Option (List (List ℕ))) (start : ℕ) (parts : List Segment) (end at i : ℕ)
     (a b c : Option (List ℕ)) (xs : List ℕ) (cs : List (List ℕ)) → known' ≡ known → known ≡ Some cs → i < length parts
@@ -111,19 +81,6 @@ broken_end known start parts end at i a b c xs cs is e d w f =
     let all : xs ++ zeros (end - at) ≡ image_from cs start parts end =
     ap (λ (v : List Segment). xs ++ image_from cs at v end) (sym none) ∙ d.facts cs is in
     (t.0, t.1, t.2, sym all ∙ t.3)
-
--- the zeros before a segment, and it
-pub gone_segment : (known : Option (List (List ℕ))) (at k : ℕ) (p : Segment) (a b c : Option (List ℕ))
-    (Was Is Next : List ℕ → Type 0) → k ≡ place p → Gone (λ xs. xs ≡ zeros (k - at)) a b Was Is
-    → Gone (IsBody known p) b c Is Next → Gone (IsNext known at p) a c Was Next
-gone_segment known at k p a b c Was Is Next e z n =
-    gone_more (λ xs. xs ≡ zeros (k - at)) (IsNext known at p) a b c Was Is Next n.bytes z
-    (λ xs v. record {
-      body = n.bytes;
-      stands = n.are;
-      all = ap (λ (y : List ℕ). y ++ n.bytes) (v ∙ ap (λ (j : ℕ). zeros (j - at)) e);
-    })
-    n.written n.added
 
 pub broken_gap : (cs : List (List ℕ)) (at k : ℕ) (p : Segment) (a b : Option (List ℕ)) → k ≡ place p
     → AppendsPrefix a b (zeros (k - at)) → AppendsPrefix a b (next_bytes cs at p)

@@ -1,14 +1,12 @@
 -- Sections put into a buffer.
-use Rattle.std.proofs.Common.{◌≡◌, ℕ, ◌+◌, ◌-◌, ◌≤◌, ◌<◌, List, [], ◌++◌, length, take, drop, None, refl, sym, ap, ◌∙◌}
+use Rattle.std.proofs.Common.{◌≡◌, ℕ, ◌+◌, ◌-◌, ◌≤◌, List, [], ◌++◌, length, take, drop, None, refl, sym, ap, ◌∙◌}
 use Rattle.std.proofs.Common.{arith, append_assoc, append-nil, length-append, length-take}
 use Rattle.std.proofs.lemmas.List.{length-replicate, length-take-le, take_at, take_all, drop_all}
 use Rattle.std.proofs.Math.Seq.{drop-append_seam}
-use Rattle.image_stream.specs.Segments.{Segment, fixed, content, place, len, segment_at, outline, bytes_of, zeros}
+use Rattle.image_stream.specs.Segments.{Segment, fixed, content, len, outline, bytes_of, zeros}
 use Rattle.image_stream.specs.Segments.{image_from, HasSource}
 use Rattle.image_stream.specs.Sources.{content_of}
 use Rattle.image_stream.specs.Outcomes.{AreSized}
-use Rattle.image_stream.specs.Steps.{next_bytes}
-use Rattle.image_stream.proofs.Images.{drop_part}
 use Rattle.image_stream.specs.declared.outline.Outline.{Outline}
 
 -- zeros and bytes behind what was put
@@ -25,20 +23,6 @@ written x y z bytes e s n len h k p q =
     let w : z ≡ (a ++ bytes) ++ d = q ∙ ap (λ (v : List ℕ). v ++ (bytes ++ d)) front ∙ sym (append_assoc a bytes d) in
     let t : length (a ++ bytes) ≡ s + n = omega (arith, length-append a bytes, m) in
     ap (take (s + n)) w ∙ take_at (a ++ bytes) d (s + n) t ∙ append_assoc (take e x) gap bytes
-
--- one segment further, seen from what is still to come
-pub put_step : (cs : List (List ℕ)) (parts : List Segment) (end at i : ℕ) (x y whole : List ℕ) → i < length parts
-    → take at x ++ image_from cs at (drop i parts) end ≡ whole
-    → take (place (segment_at parts i) + len (segment_at parts i)) y
-    ≡ take at x ++ next_bytes cs at (segment_at parts i)
-    → take (place (segment_at parts i) + len (segment_at parts i)) y
-    ++ image_from cs (place (segment_at parts i) + len (segment_at parts i)) (drop (i + 1) parts) end ≡ whole
-put_step cs parts end at i x y whole small h q =
-    let p = segment_at parts i in
-    let rest = image_from cs (place p + len p) (drop (i + 1) parts) end in
-    ap (λ (v : List ℕ). v ++ rest) q ∙ append_assoc (take at x) (next_bytes cs at p) rest
-    ∙ ap (λ (v : List ℕ). take at x ++ v) (append_assoc (zeros (place p - at)) (bytes_of cs p) rest)
-    ∙ ap (λ (v : List Segment). take at x ++ image_from cs at v end) (sym (drop_part parts i small)) ∙ h
 
 -- zeros to the end
 pub put_end : (cs : List (List ℕ)) (parts : List Segment) (end at i : ℕ) (x y whole : List ℕ) → i ≡ length parts

@@ -1,11 +1,14 @@
--- The bytes that may be behind those that a check value covers.
+-- The bytes that may be behind those that a checksum covers.
 use Rattle.std.proofs.Common.{◌≡◌, ℕ, ◌-◌, ◌≤◌, List, ◌++◌, length, take, drop, Option, Some, None, sym, refl, ◌∙◌}
 use Rattle.std.proofs.Common.{arith, subst, append_assoc, length-append, length-take, length-drop}
 use Rattle.std.proofs.lemmas.List.{length-replicate}
 use Rattle.image_stream.specs.Sources.{content_of, IfKnown}
+use Rattle.std.specs.Io.KnownBytes.{Appends}
+use Rattle.rom_fields.proofs.Joins.{appends_join}
+use Rattle.image_stream.specs.Answers.{Answer, IsBodyRead}
 use Rattle.image_stream.specs.Segments.{Segment, fixed, content, len, IsBody, HasSource, zeros}
 use Rattle.image_stream.specs.Outcomes.{AreSized}
-use Rattle.image_stream.specs.Steps.{IsFront, Gone}
+use Rattle.image_stream.specs.Steps.{IsFront, IsFrontRead, Sent}
 use Rattle.image_stream.proofs.Fronts.{rest_of, rest_within}
 
 length_within : (c xs : List ℕ) (k n : ℕ) → k ≤ n → length c ≡ n → length xs ≡ k
@@ -38,15 +41,19 @@ some_rest (Some cs) sizes (content at n file) xs k h s small f =
     )
 
 -- a segment of which no further byte counts
-pub gone_full : (known : Option (List (List ℕ))) (sizes : List ℕ) (p : Segment) (k : ℕ) (Was Is : List ℕ → Type 0)
-    → HasSource sizes p → IfKnown known (AreSized sizes) → k ≤ len p → ((xs ys : List ℕ) → Is xs → Is (xs ++ ys))
-    → Gone (IsFront known p k) None None Was Is → Gone (IsBody known p) None None Was Is
-gone_full known sizes p k Was Is h s small full g =
-    let r = some_rest known sizes p g.bytes k h s small g.are in
+pub sent_full : (All : Type 0) (known : Option (List (List ℕ))) (sizes : List ℕ) (p : Segment) (k : ℕ)
+    (a b : Option (List ℕ)) (Was Is : List ℕ → Type 0) (was is : List Answer → Type 0) → HasSource sizes p
+    → IfKnown known (AreSized sizes) → k ≤ len p → (All → ⊥) → ((ys : List ℕ) → Appends b b ys)
+    → ((xs ys : List ℕ) → Is xs → Is (xs ++ ys))
+    → Sent All (IsFront known p k) (IsFrontRead p k) was is a b Was Is
+    → Sent All (IsBody known p) (λ answers. IsBodyRead answers p) was is a b Was Is
+sent_full All known sizes p k a b Was Is was is h s small some unwritten full g =
+    let r = some_rest known sizes p g.bytes k h s small g.are.0 in
+    let read = g.are.1 in
     record {
       bytes = g.bytes ++ r.0;
-      are = r.1;
-      written = tt;
+      are = (r.1, record { answers = read.answers; are = λ all. absurd (some all); logged = read.logged });
+      written = appends_join a b b g.bytes r.0 g.written (unwritten r.0);
       added = λ xs v. let R : List ℕ → Type 0 =
           λ z. Is z in let t : Is ((xs ++ g.bytes) ++ r.0) =
           full (xs ++ g.bytes) r.0 (g.added xs v) in subst R (append_assoc xs g.bytes r.0) t;

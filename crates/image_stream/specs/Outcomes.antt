@@ -25,8 +25,8 @@ pub record IsLeastWrong (sizes : List ℕ) (file : ℕ) (cs : List (List ℕ)) :
   pub differs : length (content_of cs file) ≢ get_or sizes file 0
   pub least : FrontSized sizes file cs
 
--- A whole image was appended, whatever the sources are: with their contents if these are facts, and
--- otherwise with some contents of the planned sizes, and with the check value of exactly these
+-- A whole image was appended, whatever the sources are: with their contents if these are known, and
+-- otherwise with some contents of the planned sizes, and with the checksum of exactly these
 -- bytes. `answers` are the answers of the reads that its contents were taken from.
 pub record IsWritten (known : Option (List (List ℕ))) (f : Form) (stored : List ℕ → ℕ)
     (old new : Option (List ℕ)) : Type 0 where
@@ -43,7 +43,7 @@ abbrev pub IsStreamed : Option (List (List ℕ)) → (List Answer → Type 0) �
 IsStreamed known was is f stored old new =
     (w : IsWritten known f stored old new) × LogsLast was is w.answers
 
--- a whole image was appended, but its check value is not that of its bytes
+-- a whole image was appended, but its checksum is not that of its bytes
 pub record IsMisstored (known : Option (List (List ℕ))) (f : Form) (stored : List ℕ → ℕ)
     (old new : Option (List ℕ)) : Type 0 where
   pub rest : List ℕ
@@ -52,11 +52,11 @@ pub record IsMisstored (known : Option (List (List ℕ))) (f : Form) (stored : L
   pub differs : value ≢ stored (f.head 0 ++ rest)
   pub written : Appends old new (f.head value ++ rest)
 
--- The meaning of an early end, by the contents of the sources (if these are facts), by the counts
+-- The meaning of an early end, by the contents of the sources (if these are known), by the counts
 -- of failed reads and of the writer's failures, and by what was written. `SizeDiffers`: the file is
 -- the first with another size, and nothing was written. `SourceFault`: a read of the file failed,
 -- and the files before it have their sizes. `WriteFault`: the writer failed. `Changed`: what was
--- read changed, so the check value is wrong; this does not happen if the contents are facts.
+-- read changed, so the checksum is wrong; this does not happen if the contents are known.
 abbrev pub IsStreamFault : Option (List (List ℕ)) → Form → (List ℕ → ℕ) → Reads → Reads → Output
     → Output → StreamError
     → Type 0

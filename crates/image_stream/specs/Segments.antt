@@ -1,4 +1,4 @@
--- An image before the contents of its files are facts. `Segment`, `Form`: a superblock, segments at
+-- An image before the contents of its files are known. `Segment`, `Form`: a superblock, segments at
 -- their offsets behind it, and zeros everywhere else. `image_from`, `image_of`: its bytes.
 -- `IsImage`: bytes that may be this image. `IsLaidOut`: it can be written. (This project's own.)
 use Rattle.std.specs.Prelude.{◌≡◌, ℕ, ◌+◌, ◌-◌, ◌<◌, ◌≤◌, ◌^◌, List, [], ◌∷◌, ◌++◌, length, take}
@@ -38,7 +38,7 @@ bytes_of cs (content at size file) = take size (content_of cs file)
 abbrev pub segment_part : List (List ℕ) → Segment → Part
 segment_part cs p = part (place p) (bytes_of cs p)
 
--- bytes that a segment may have: its own if they are facts, and otherwise any bytes of its length
+-- bytes that a segment may have: its own if they are known, and otherwise any bytes of its length
 abbrev pub IsBody : Option (List (List ℕ)) → Segment → List ℕ → Type 0
 IsBody known (fixed at bytes) xs = xs ≡ bytes
 IsBody known (content at size file) xs =
@@ -71,7 +71,7 @@ abbrev pub HasSource : List ℕ → Segment → Type 0
 HasSource sizes (fixed at bytes) = Unit {0}
 HasSource sizes (content at size file) = (file < length sizes) × (size ≡ get_or sizes file 0)
 
--- The superblock by the check value that it stores, and its length; the segments behind it, and the
+-- The superblock by the checksum that it stores, and its length; the segments behind it, and the
 -- length of the image; the size of each file.
 pub record Form : Type 0 where
   pub head : ℕ → List ℕ
@@ -89,8 +89,8 @@ pub record IsLaidOut (f : Form) : Type 0 where
   pub short : f.start ≤ 4096
   pub sized : (file : ℕ) → get_or f.sizes file 0 < 2 ^ 32
 
--- a superblock that stores the check value of the image, and the rest of the image; the value is
--- that of the image with 0 as its check value
+-- a superblock that stores the checksum of the image, and the rest of the image; the checksum is
+-- that of the image with 0 in its place
 abbrev pub checked : (ℕ → List ℕ) → (List ℕ → ℕ) → List ℕ → List ℕ
 checked head stored rest = head (stored (head 0 ++ rest)) ++ rest
 

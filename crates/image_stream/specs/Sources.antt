@@ -1,4 +1,4 @@
--- `IfKnown`: the contents of sources have a property, if they are facts. `ReadsAt`: the result of a
+-- `IfKnown`: the contents of sources have a property, if they are known. `ReadsAt`: the result of a
 -- read. `Reads`, `FailedAt`: the counts of failed reads. (This project's own.)
 use Rattle.std.specs.Prelude.{◌≡◌, ℕ, ◌<◌, ◌≤◌, List, [], take, drop, length, get_or, Option, Some}
 use Rattle.std.specs.Prelude.{None, Result, Ok, Err, MatchResult, ⊤}
@@ -8,7 +8,7 @@ use Rattle.rom_fields.specs.Failures.{one_more, Rose}
 abbrev pub content_of : List (List ℕ) → ℕ → List ℕ
 content_of cs file = get_or cs file []
 
--- P holds for the contents, if they are facts
+-- P holds for the contents, if they are known
 abbrev pub IfKnown : Option (List (List ℕ)) → (List (List ℕ) → Type 0) → Type 0
 IfKnown known P = (cs : List (List ℕ)) → known ≡ Some cs → P cs
 

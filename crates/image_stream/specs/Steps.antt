@@ -1,5 +1,5 @@
 -- For the proofs: the steps of a stream. `IsFront`, `IsPiece`, `IsNext`: pieces of segments.
--- `IsDone`: what was sent so far. `Gone`: bytes went to the writer and into a check value.
+-- `IsDone`: what was sent so far. `Gone`, `Sent`: bytes went to the writer and into a checksum.
 -- `IsFault`: a fault on the way. (This project's own.)
 use Rattle.std.specs.Prelude.{◌≡◌, ◌≢◌, ℕ, ◌-◌, ◌<◌, List, [], ◌++◌, length, take, drop, get_or}
 use Rattle.std.specs.Prelude.{Option}
@@ -72,13 +72,21 @@ pub record Read (P : List Answer → List ℕ → Type 0) (was is : List Answer 
   pub are : P answers xs
   pub logged : Logs was is answers
 
--- bytes with this property went to the writer and into a check value
+-- bytes with this property went to the writer and into a checksum
 pub record Gone (P : List ℕ → Type 0) (old new : Option (List ℕ))
     (Was Is : List ℕ → Type 0) : Type 0 where
   pub bytes : List ℕ
   pub are : P bytes
   pub written : Appends old new bytes
   pub added : (xs : List ℕ) → Was xs → Is (xs ++ bytes)
+
+-- Bytes with the property P went to the writer and into a checksum. If all were needed (All), they
+-- have the property R with the answers that were logged.
+abbrev pub Sent : Type 0 → (List ℕ → Type 0) → (List Answer → List ℕ → Type 0)
+    → (List Answer → Type 0) → (List Answer → Type 0) → Option (List ℕ) → Option (List ℕ)
+    → (List ℕ → Type 0) → (List ℕ → Type 0) → Type 0
+Sent All P R was is old new Was Is =
+    Gone (λ xs. P xs × Read (λ answers zs. All → R answers zs) was is xs) old new Was Is
 
 -- a file ended before `end`, or a read of it failed
 abbrev pub IsReadFault : Option (List (List ℕ)) → ℕ → ℕ → Reads → Reads → StreamError → Type 0

@@ -1,5 +1,5 @@
--- `balance_of`: the check value of romfs, which brings the sum of the big-endian words of the first
--- 512 bytes to 0. `IsSum`: the sum so far, byte by byte. (Linux
+-- `balance_of`: the checksum word of romfs, which brings the sum of the big-endian words of the
+-- first 512 bytes to 0. `IsSum`: the sum so far, byte by byte. (Linux
 -- Documentation/filesystems/romfs.rst.)
 use Rattle.std.specs.Prelude.{◌≡◌, ℕ, ◌+◌, ◌*◌, ◌%◌, ◌^◌, min, nat_lt, if◌then◌else◌, ◌==◌, List}
 use Rattle.std.specs.Prelude.{[], ◌∷◌, length}

@@ -1,16 +1,16 @@
-//! The trait of check values over bytes, which an image stores.
+//! The trait of the checksums that images store: the checksum word of romfs, the CRC of cramfs.
 ghost use Rattle.std.specs.Prelude.{◌≡◌, [], ◌++◌, ℕ, List};
 ghost use Rattle.std.specs.Bool.{OnTrue};
 
-/// A check value over bytes in order.
+/// A checksum over bytes in order.
 pub trait Checksum: Copy {
-    // The value is that of these bytes.
+    // It is the checksum of these bytes.
     ghost Is: { Self → List ℕ → Type 0 };
 
-    // The value that an image stores for the bytes.
+    // The number that an image stores for the bytes.
     ghost stored: { List ℕ → ℕ };
 
-    /// Returns the value of no bytes.
+    /// Returns the checksum of no bytes.
     fn start() -> Self
         ensures { Is result [] };
 
@@ -18,12 +18,12 @@ pub trait Checksum: Copy {
     fn add(&mut self, bytes: &[u8])
         ensures { (xs : List ℕ) → Is self.old xs → Is self.new (xs ++ bytes.now) };
 
-    /// Returns whether no further byte changes the value.
+    /// Returns whether no further byte changes the checksum.
     fn is_full(&self) -> bool
         ensures { OnTrue result
             ((xs ys : List ℕ) → Is self.now xs → Is self.now (xs ++ ys)) };
 
-    /// Returns the value that an image stores.
+    /// Returns the number that an image stores.
     fn value(&self) -> u32
         ensures { (xs : List ℕ) → Is self.now xs → result ≡ stored xs };
 }

@@ -1,4 +1,4 @@
-//! CRC-32 as a check value, as cramfs stores it.
+//! The CRC-32 that cramfs stores as its checksum.
 ghost use Rattle.std.specs.Prelude.{◌≡◌};
 ghost use Rattle.crc.specs.Crc.{crc_of};
 

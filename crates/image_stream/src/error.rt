@@ -12,7 +12,7 @@ pub struct SizeDiffers {
 #[derive(Debug, Clone, Copy, PartialEq, Eq, Error)]
 pub enum StreamError {
     /// The contents of a file have another size than was planned. If the contents of the sources
-    /// are facts, it is the first such file, and nothing was written.
+    /// are known, it is the first such file, and nothing was written.
     #[error("file {file} has another size")]
     SizeDiffers { file: usize },
     /// A read of a file failed.
@@ -21,7 +21,7 @@ pub enum StreamError {
     /// The writer failed, or accepted no byte.
     #[error("a write failed")]
     WriteFault,
-    /// The contents changed between two reads. The check value that was written is not that of the
+    /// The contents changed between two reads. The checksum that was written is not that of the
     /// image that was written.
     #[error("contents changed")]
     Changed,

@@ -4,8 +4,8 @@
 //!
 //! Proved: an `Ok` of `write` or `stream` means that exactly this image was written, with the
 //! contents that were read last; `specs/Outcomes.antt` has the meaning of each error. An image is a
-//! superblock, which stores a check value of the whole, and segments at their offsets: bytes that
-//! are facts, or the contents of a file (`specs/Segments.antt`). Every other byte is zero.
+//! superblock, which stores a checksum of the whole, and segments at their offsets: bytes that are
+//! known, or the contents of a file (`specs/Segments.antt`). Every other byte is zero.
 #![tactic(auto)]
 
 mod checksum;
@@ -13,16 +13,15 @@ mod crc32;
 mod error;
 pub mod laws;
 mod measure;
-mod nowhere;
 mod outline;
 mod pieces;
 mod segmented;
+mod sink;
 mod slices;
 #[cfg(test)]
 mod small;
 mod sources;
 mod streaming;
-mod summing;
 #[cfg(test)]
 mod tests;
 mod word_sum;

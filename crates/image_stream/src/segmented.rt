@@ -4,8 +4,8 @@ ghost use Rattle.image_stream.specs.Segments.{Form, fixed, outline, len, segment
 
 use crate::outline::Outline;
 
-/// An image whose offsets are all facts: a superblock, which stores a check value of the whole, and
-/// segments behind it. The bytes of a segment are facts, or are the contents of a file.
+/// An image whose offsets are all known: a superblock, which stores a checksum of the whole, and
+/// segments behind it. The bytes of a segment are known, or are the contents of a file.
 pub trait Segmented {
     // The superblock, the segments and the sizes of the image.
     ghost form: { Self → Form };
@@ -27,7 +27,7 @@ pub trait Segmented {
     fn image_len(&self) -> usize
         ensures { result ≡ (form self.now).end };
 
-    /// Fills `out` with the superblock that stores this check value.
+    /// Fills `out` with the superblock that stores this checksum.
     fn fill_head(&self, stored: u32, out: &mut [u8])
         requires { length out.old ≡ (form self.now).start }
         ensures { out.new ≡ (form self.now).head stored };

@@ -10,7 +10,7 @@ pub struct SourceFailed;
 
 /// The contents of files, which can be read at any offset. Failed reads are counted.
 pub trait Sources {
-    // The contents of all files, if they are facts.
+    // The contents of all files, if they are known.
     ghost known: { Self → Option (List (List ℕ)) };
 
     // The number of files.

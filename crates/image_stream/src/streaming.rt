@@ -14,11 +14,11 @@ use crate::error::StreamError;
 use crate::measure::measure_all;
 use crate::pieces::walk;
 use crate::segmented::Segmented;
+use crate::sink::{SumSink, WriteSink};
 use crate::sources::Sources;
-use crate::summing::sum_walk;
 use rom_fields::{ByteWrite, Failed, write_whole};
 
-/// Adds the superblock, with 0 as the value that it stores, to the check value.
+/// Adds the superblock, with 0 as its stored checksum, to the checksum.
 fn add_head<L: Segmented, C: Checksum>(layout: &L, check: &mut C, buffer: &mut [u8])
     requires { (L.form layout.now).start ≤ length buffer.old }
     ensures { (xs : List ℕ) → C.Is check.old xs
@@ -46,7 +46,7 @@ fn write_head<L: Segmented, W: ByteWrite>(
     write_whole(w, head)
 }
 
-/// Compares the check value that was stored with that of what was written.
+/// Compares the checksum that was stored with that of what was written.
 fn confirm<C: Checksum>(written: &C, stored: u32) -> Result<(), StreamError>
     ensures ok { OnOk result ((xs : List ℕ) → C.Is written.now xs → stored ≡ C.stored xs) }
     ensures err { IfErr result (λ e. (e ≡ Changed)
@@ -62,12 +62,13 @@ fn confirm<C: Checksum>(written: &C, stored: u32) -> Result<(), StreamError>
 /// There are three passes over the sources:
 ///
 /// - for their sizes, in order, each source at its last byte and one byte further;
-/// - for the check value, in the order of their offsets, as far as the value covers them;
+/// - for the checksum, in the order of their offsets, as far as it covers them. The checksum word
+///   of romfs covers the first 512 bytes of the image, the CRC of cramfs covers all of it;
 /// - whole, for what is written. Nothing is written before this pass.
 ///
 /// At `Ok`, exactly the image was written, whatever the sources are. The contents of its files are
 /// what the reads answered last, one after the other. After an error, a prefix of the image was
-/// written, if the contents of the sources are facts.
+/// written, if the contents of the sources are known.
 ///
 /// # Errors
 ///
@@ -106,18 +107,21 @@ pub fn stream_through<L: Segmented, S: Sources, W: ByteWrite, C: Checksum>(
     }
     let mut first = C::start();
     add_head(layout, &mut first, buffer);
-    let mut check = first;
-    match sum_walk(layout, sources, &mut check, buffer) {
+    let mut summed = SumSink { check: first };
+    match walk(layout, sources, &mut summed, buffer) {
         Ok(()) => {}
         Err(e) => return Err(e),
     }
-    let stored = check.value();
+    let stored = summed.check.value();
     match write_head(layout, stored, w, buffer) {
         Ok(()) => {}
         Err(Failed) => return Err(StreamError::WriteFault),
     }
-    let mut again = first;
-    match walk(layout, sources, w, &mut again, buffer) {
+    let mut written = WriteSink { w, check: first };
+    let sent = walk(layout, sources, &mut written, buffer);
+    // The reference comes back, so it is known here what was written through it.
+    let WriteSink { w, check } = written;
+    match sent {
         Ok(()) => {}
         Err(e) => return Err(e),
     }
@@ -125,7 +129,7 @@ pub fn stream_through<L: Segmented, S: Sources, W: ByteWrite, C: Checksum>(
         Ok(()) => {}
         Err(Failed) => return Err(StreamError::WriteFault),
     }
-    match confirm(&again, stored) {
+    match confirm(&check, stored) {
         Ok(()) => {}
         Err(e) => return Err(e),
     }

@@ -1,4 +1,4 @@
-//! The sum of the words of the first 512 bytes as a check value, as romfs stores it.
+//! The checksum word of romfs, which brings the sum of the words of the first 512 bytes to 0.
 ghost use Rattle.std.specs.Prelude.{◌≡◌, ◌∷◌, [], ◌++◌, ◌+◌, ◌*◌, ◌%◌, ◌^◌, ◌<◌, ◌≤◌, ℕ, List};
 ghost use Rattle.std.specs.Prelude.{length, true};
 ghost use Rattle.std.specs.Bool.{OnTrue};

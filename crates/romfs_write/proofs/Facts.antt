@@ -1,4 +1,4 @@
--- The facts facts of a romfs plan.
+-- The known facts of a romfs plan.
 use Rattle.std.proofs.Common.{◌≡◌, ℕ, ◌+◌, ◌-◌, ◌^◌, ◌<◌, List, [], ◌∷◌, ◌++◌, map, length, get_or, refl, sym, ap}
 use Rattle.std.proofs.Common.{subst, ◌∙◌, arith}
 use Rattle.manifest.specs.Grammar.{IsManifest}

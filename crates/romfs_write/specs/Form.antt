@@ -1,5 +1,5 @@
 -- `form_of`: the plan of a romfs image as a superblock and segments, before the contents of its
--- files are facts. (This project's own; the bytes are those of the layout.)
+-- files are known. (This project's own; the bytes are those of the layout.)
 use Rattle.std.specs.Prelude.{ℕ, ◌+◌, ◌-◌, List, [], ◌++◌, map, length, drop}
 use Rattle.byteorder.specs.Endian.{big_bytes}
 use Rattle.image_stream.specs.Segments.{Segment, fixed, content, Form}
@@ -38,7 +38,7 @@ segment_by is place len (contents_of file) = content place len file
 abbrev pub segment_of : List Item → Section → Segment
 segment_of is s = segment_by is s.place s.len s.body
 
--- the image of a plan, before the contents of its files are facts
+-- the image of a plan, before the contents of its files are known
 abbrev pub form_of : Planned → Form
 form_of p = record {
   head = λ sum. superblock_storing sum (full_size p.items) p.volume;

@@ -1,4 +1,4 @@
--- `IsRomfsPlan`: the facts facts of the plan of a romfs image. (This project's own.)
+-- `IsRomfsPlan`: the known facts of the plan of a romfs image. (This project's own.)
 use Rattle.std.specs.Prelude.{◌≡◌, ℕ, ◌+◌, ◌^◌, ◌<◌, List, ◌∷◌, length, drop, get_or}
 use Rattle.std.specs.List.{AllByRecursion as Every}
 use Rattle.manifest_tree.specs.Names.{text}

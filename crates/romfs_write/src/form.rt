@@ -24,7 +24,7 @@ pub struct RomfsForm<'p> {
     ghost romfs: { plan.now.format ≡ romfs },
 }
 
-/// Shows the facts facts of the plan of a romfs image.
+/// Shows the known facts of the plan of a romfs image.
 pub fn facts(plan: &Plan)
     requires { plan.now.format ≡ romfs }
     ensures plan { IsRomfsPlan plan.now }

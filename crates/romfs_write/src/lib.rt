@@ -3,7 +3,7 @@
 //!
 //! Proved: at an `Ok` of `write`, the buffer holds exactly the layout (`romfs_layout`,
 //! `manifest_layout`), whatever it held before. At an `Ok` of `stream` or `stream_through`, exactly
-//! the layout was written, if the contents of the sources are facts. An error of `write` leaves the
+//! the layout was written, if the contents of the sources are known. An error of `write` leaves the
 //! buffer as it was, and has the first file with another size. `specs/Form.antt` has the image's
 //! segments.
 #![tactic(auto)]

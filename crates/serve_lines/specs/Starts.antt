@@ -2,7 +2,7 @@
 use Rattle.std.specs.Prelude.{ℕ, Bool, true, false, List, length, take, Option, Some, None}
 use Rattle.std.specs.Str.{bytes_eq}
 
--- new bytes begin with the old ones; true if the old ones are not facts
+-- new bytes begin with the old ones; true if the old ones are not known
 abbrev pub begins_with : Option (List ℕ) → Option (List ℕ) → Bool
 begins_with None new = true
 begins_with (Some xs) None = false

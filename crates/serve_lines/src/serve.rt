@@ -92,7 +92,7 @@ fn answer_line<M: LineMachine, W: ByteWrite>(
 {
     let mut reached = Reached { w };
     let mut answered = Ok(false);
-    // The reference comes back, so it is facts here what was written through it.
+    // The reference comes back, so it is known here what was written through it.
     reached = answer_through::<M, W, Brand>(m, line, reached, &mut answered);
     answered
 }

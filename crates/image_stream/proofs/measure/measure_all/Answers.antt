@@ -1,5 +1,5 @@
 use Rattle.std.proofs.Common.{arith}
-use Rattle.std.proofs.Common.{◌≡◌, ◌∙◌, ap, length, get_or}
+use Rattle.std.proofs.Common.{◌≡◌, ◌∙◌, length, get_or}
 use Rattle.image_stream.specs.Sources.{content_of}
 use Rattle.image_stream.proofs.Answering.{grew_join, sized_more}
 use Rattle.image_stream.proofs.measure.measure_all.Goals as goal

@@ -1,6 +1,6 @@
 use Rattle.std.proofs.Common.{length, ◌-◌, ◌≡◌, ◌≤◌, ◌<◌, ◌%◌}
 use Rattle.image_stream.specs.Segments.{segment_at}
-use Rattle.image_stream.specs.Steps.{IsFront, IsFrontRead, Gone, Read}
+use Rattle.image_stream.specs.Steps.{IsFront, IsFrontRead, Sent}
 use Rattle.image_stream.proofs.pieces.copy_segment.Given as goal
 
 abbrev pub invariant-loop-from : goal.invariant-loop-from
@@ -11,13 +11,14 @@ invariant-loop-from g l = record {
   known : g.S.Sources.known l.sources ≡ g.S.Sources.known l.initial.sources;
   files : g.S.Sources.files l.sources ≡ g.S.Sources.files l.initial.sources;
   read : g.S.Sources.reads l.sources ≡ g.S.Sources.reads l.initial.sources;
-  wrote : (g.W.ByteWrite.output l.w).failures ≡ (g.W.ByteWrite.output l.initial.w).failures;
-  gone : Gone (λ xs. IsFront (g.S.Sources.known l.initial.sources)
-      (segment_at (g.L.Segmented.form l.layout).segments l.i) l.from xs
-      × Read (λ answers zs. IsFrontRead (segment_at (g.L.Segmented.form l.layout).segments l.i) l.from answers zs)
-      (g.S.Sources.IsLog l.initial.sources) (g.S.Sources.IsLog l.sources) xs)
-      (g.W.ByteWrite.output l.initial.w).contents (g.W.ByteWrite.output l.w).contents (g.C.Checksum.Is l.initial.check)
-      (g.C.Checksum.Is l.check);
+  loan : g.K.Sink.loan l.sink ≡ g.K.Sink.loan l.initial.sink;
+  wrote : (g.K.Sink.output l.sink).failures ≡ (g.K.Sink.output l.initial.sink).failures;
+  sent : Sent g.K.Sink.NeedsAll
+      (IsFront (g.S.Sources.known l.initial.sources) (segment_at (g.L.Segmented.form l.layout).segments l.i) l.from)
+      (IsFrontRead (segment_at (g.L.Segmented.form l.layout).segments l.i) l.from)
+      (g.S.Sources.IsLog l.initial.sources) (g.S.Sources.IsLog l.sources)
+      (g.K.Sink.output l.initial.sink).contents (g.K.Sink.output l.sink).contents (g.K.Sink.Is l.initial.sink)
+      (g.K.Sink.Is l.sink);
 }
 
 abbrev pub decreases-loop-from : goal.decreases-loop-from

@@ -22,8 +22,9 @@ loop-left-preserved g c =
     some_zeros c.clear.new.out c.min-most.result c.min-n.result (c.clear.ensures ∙ ap zeros m) (omega arith) in
     record {
       within = omega arith;
+      loan = c.put.ensures.loan ∙ inv.loan;
       wrote = c.in-Ok.ensures.count ∙ inv.wrote;
       gone = gone_zeros (c.args.count - c.loop-left.left) c.min-n.result
           (c.args.count - (c.loop-left.left - c.min-n.result)) _ _ _ _ _ _ (take c.min-n.result c.clear.new.out)
-          (omega arith) ys inv.gone c.in-Ok.ensures.text c.emit.ensures.check;
+          (omega arith) ys inv.gone c.in-Ok.ensures.text c.put.ensures.sum;
     }

@@ -6,9 +6,10 @@ use Rattle.image_stream.proofs.pieces.emit_zeros.Given as goal
 abbrev pub invariant-loop-left : goal.invariant-loop-left
 invariant-loop-left g l = record {
   within : l.left ≤ l.count;
-  wrote : (g.W.ByteWrite.output l.w).failures ≡ (g.W.ByteWrite.output l.initial.w).failures;
-  gone : Gone (λ xs. xs ≡ zeros (l.count - l.left)) (g.W.ByteWrite.output l.initial.w).contents
-      (g.W.ByteWrite.output l.w).contents (g.C.Checksum.Is l.initial.check) (g.C.Checksum.Is l.check);
+  loan : g.K.Sink.loan l.sink ≡ g.K.Sink.loan l.initial.sink;
+  wrote : (g.K.Sink.output l.sink).failures ≡ (g.K.Sink.output l.initial.sink).failures;
+  gone : Gone (λ xs. xs ≡ zeros (l.count - l.left)) (g.K.Sink.output l.initial.sink).contents
+      (g.K.Sink.output l.sink).contents (g.K.Sink.Is l.initial.sink) (g.K.Sink.Is l.sink);
 }
 
 abbrev pub decreases-loop-left : goal.decreases-loop-left

@@ -4,7 +4,7 @@ use Rattle.std.proofs.lemmas.List.{drop-drop}
 use Rattle.image_stream.specs.Sources.{content_of}
 use Rattle.image_stream.specs.Answers.{answer, AreReads}
 use Rattle.image_stream.proofs.Fills.{fill_step, front_step, length-put_rest}
-use Rattle.image_stream.proofs.Answering.{logs_none, logs_join, reads_one, reads_join}
+use Rattle.image_stream.proofs.Answering.{logs_join, reads_one, reads_join}
 use Rattle.image_stream.proofs.pieces.read_exactly.Goals as goal
 
 pub loop-done-preserved : goal.loop-done-preserved

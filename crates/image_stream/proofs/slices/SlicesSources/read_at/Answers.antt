@@ -2,7 +2,6 @@ use Rattle.std.proofs.lemmas.Grind.{common_steps}
 use Rattle.std.proofs.Common.{arith, refl, []}
 use Rattle.std.proofs.Common.{◌≡◌, ◌++◌, take, drop}
 use Rattle.image_stream.specs.Sources.{content_of}
-use Rattle.image_stream.specs.Answers.{answer}
 use Rattle.image_stream.proofs.Answering.{of_more}
 use Rattle.image_stream.proofs.slices.SlicesSources.read_at.Goals as goal
 
