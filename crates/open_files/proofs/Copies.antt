@@ -1,14 +1,16 @@
 -- Bytes copied into a buffer.
 use Rattle.std.proofs.Common.{◌≡◌, ℕ, zero, suc, ◌+◌, ◌≤◌, List, [], ◌∷◌, ◌++◌, length, take, drop, refl, sym, ap, ◌∙◌}
-use Rattle.std.proofs.Common.{arith, append_assoc, length-append, length-take, length-drop, Some}
+use Rattle.std.proofs.Common.{arith, append_assoc, length-append, length-take, length-drop, Some, Ok}
 use Rattle.std.proofs.lemmas.List.{length-map}
 use Rattle.std.specs.Prelude.{slice_index}
 use Rattle.rom_tree.specs.declared.types.Run.{Run}
 use Rattle.rom_tree.specs.Tree.{Node, places_of}
-use Rattle.rom_tree.specs.Image.{Image, image_node, IsRun}
+use Rattle.rom_tree.specs.Image.{Image, HasNode, image_node, IsRun}
+use Rattle.rom_tree.proofs.Named.{node_by}
 use Rattle.rom_tree.proofs.Rows.{row_bytes, row_end}
 use Rattle.std.proofs.lemmas.List.{get_or-take, get_or-drop}
 use Rattle.open_files.specs.Lending.{bytes_of}
+use Rattle.open_files.specs.Machine.{Outcome}
 
 take_nil : (n : ℕ) → take {A = ℕ} n [] ≡ []
 take_nil zero = refl
@@ -88,6 +90,15 @@ run_text m n x off count r e i c =
     (λ j l. get_or-take count (drop off ps) j 0 l ∙ (get_or-drop off ps j 0 ∙ i.row j (omega (arith, l, c))))
     (omega (arith, z, c))
 
+-- the front of a run ends in the image
+pub run_ends : (m : Image) (n : ℕ) (off count : ℕ) (r : Run) → HasNode m n
+    → ((x : Node) → image_node m n ≡ Some x → IsRun (places_of x) off r) → count ≤ r.len
+    → r.place + count ≤ length m.bytes
+run_ends m n off count r h known c =
+    let x = node_by m n h in
+    let z = row_end m n x.0 off r x.1 (known x.0 x.1) in
+    omega (arith, z, c)
+
 -- the buffer keeps its length
 pub copy_length : (old text new : List ℕ) (done : ℕ) → done + length text ≤ length old
     → new ≡ take done old ++ (text ++ drop (done + length text) old) → length new ≡ length old
@@ -102,7 +113,7 @@ copy_length old text new done l e =
     ))
 
 -- what is in the buffer afterwards: the bytes, and then what was there
-pub copied_front : (b ps first new : List ℕ) (at n count : ℕ) → count ≡ length (take n (drop at ps))
+copied_front : (b ps first new : List ℕ) (at n count : ℕ) → count ≡ length (take n (drop at ps))
     → new ≡ bytes_of b (take n (drop at ps)) ++ drop count first → take count new ≡ bytes_of b (take n (drop at ps))
 copied_front b ps first new at n count c e =
     ap (take count) e ∙ take_front (bytes_of b (take n (drop at ps))) (drop count first) count
@@ -113,3 +124,15 @@ pub copied_rest : (b ps first new : List ℕ) (at n count : ℕ) → count ≡ l
 copied_rest b ps first new at n count c e =
     ap (drop count) e ∙ drop_front (bytes_of b (take n (drop at ps))) (drop count first) count
     (length-map (take n (drop at ps)) (λ (p : ℕ). slice_index b p) ∙ sym c)
+
+-- read's answer for a file with these places
+abbrev pub read_within : List ℕ → List ℕ → ℕ → ℕ → Outcome (List ℕ)
+read_within b ps at n = Ok (bytes_of b (take n (drop at ps)), at + length (take n (drop at ps)))
+
+pub read_gives : (b ps first new : List ℕ) (at n count : ℕ) → count ≡ length (take n (drop at ps))
+    → new ≡ bytes_of b (take n (drop at ps)) ++ drop count first
+    → read_within b ps at n ≡ Ok (take count new, at + count)
+read_gives b ps first new at n count c e =
+    let ok : List ℕ → ℕ → Outcome (List ℕ) = λ v k. Ok (v, at + k) in
+    ap (λ (v : List ℕ). ok v (length (take n (drop at ps)))) (sym (copied_front b ps first new at n count c e))
+    ∙ ap (ok (take count new)) (sym c)

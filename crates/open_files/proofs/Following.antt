@@ -9,10 +9,10 @@ use Rattle.rom_tree.specs.Tree.{Node, places_of}
 use Rattle.rom_tree.specs.Image.{Image, image_node}
 use Rattle.rom_tree.proofs.Rows.{row_bytes, row_end}
 use Rattle.open_files.specs.declared.error.CallError.TheVariants.{Einval, Erange}
-use Rattle.open_files.specs.Calls.{Lent}
+use Rattle.open_files.specs.Calls.{Of, Lent}
 use Rattle.open_files.specs.Lending.{consecutive_from, first_place, consecutive, lent, lent_of}
 use Rattle.rom_tree.specs.Runs.{IsLongest}
-use Rattle.open_files.specs.Machine.{map_within, map_places}
+use Rattle.open_files.specs.Machine.{Outcome, map_within, map_places}
 
 -- the front from p on has the first len offsets
 pub consecutive-is : (p : ℕ) (qs : List ℕ) (len : ℕ) → len ≤ length qs → ((k : ℕ) → k < len → get_or qs k 0 ≡ p + k)
@@ -59,6 +59,11 @@ places_apart i b at qs len h =
 places_whole : (i : Option ℕ) (b : List ℕ) (at : ℕ) (qs : List ℕ) (len : ℕ) → length (consecutive qs) ≡ len
     → map_places i b at qs len ≡ Ok ((i, lent b qs), at)
 places_whole i b at qs len h = rw (eq-eqb (length (consecutive qs)) len h)
+
+-- lend's answer for a file with these places
+abbrev pub lend_within : Option ℕ → List ℕ → List ℕ → ℕ → ℕ → Outcome (Of Lent)
+lend_within i b ps at most =
+    Ok ((i, lent b (consecutive (take most (drop at ps)))), at + length (consecutive (take most (drop at ps))))
 
 module _ (ps : List ℕ) (at most : ℕ) where
   next_length : length (take most (drop at ps)) ≡ min most (length ps - at)
@@ -118,6 +123,15 @@ module _ (ps : List ℕ) (at most : ℕ) where
       ∙ ap (lent_of place) (sym (row_bytes b (consecutive (take most (drop at ps))) place len
       (sym (front_length place len h)) (front_get place len h) w))
 
+  pub lend_gives : (i : Option ℕ) (b whole text : List ℕ) (place len : ℕ) → IsLongest ps at most place len
+      → place + len ≤ length b → whole ≡ b → text ≡ take len (drop place whole)
+      → lend_within i b ps at most ≡ Ok ((i, lent_of place text), at + len)
+  lend_gives i b whole text place len h w q t =
+      let ok : Lent → ℕ → Outcome (Of Lent) = λ v n. Ok ((i, v), at + n) in
+      ap (λ (v : Lent). ok v (length (consecutive (take most (drop at ps)))))
+      (front_lent b place len h w ∙ ap (lent_of place) (sym (t ∙ ap (λ (v : List ℕ). take len (drop place v)) q)))
+      ∙ ap (ok (lent_of place text)) (front_length place len h)
+
 -- the end of a front in the image
 pub longest_end : (m : Image) (n : ℕ) (x : Node) (at most place len : ℕ) → image_node m n ≡ Some x
     → IsLongest (places_of x) at most place len → place + len ≤ length m.bytes
@@ -147,9 +161,10 @@ module _ (i : Option ℕ) (b : List ℕ) (at : ℕ) (ps : List ℕ) (off len : �
   map_apart place n h d s l = map_inside s l
       ∙ places_apart i b at (take len (drop off ps)) len (λ e. omega (arith, front_length ps off len place n h, e))
 
-  pub map_whole : (place n : ℕ) → IsLongest ps off len place n → len ≤ n → 0 < len → off + len ≤ length ps
-      → place + len ≤ length b → map_within i b at ps off len ≡ Ok ((i, lent_of place (take len (drop place b))), at)
-  map_whole place n h d s l w =
+  pub map_whole : (place n : ℕ) (whole text : List ℕ) → IsLongest ps off len place n → len ≤ n → 0 < len
+      → off + len ≤ length ps → place + n ≤ length b → whole ≡ b → text ≡ take len (drop place whole)
+      → map_within i b at ps off len ≡ Ok ((i, lent_of place text), at)
+  map_whole place n whole text h d s l w q t =
       let f = h.fits in
       let e : n ≡ len = omega arith in
       let P : ℕ → Type 0 = λ v. IsLongest ps off len place v in
@@ -158,4 +173,6 @@ module _ (i : Option ℕ) (b : List ℕ) (at : ℕ) (ps : List ℕ) (off len : �
       let r : consecutive (take len (drop off ps)) ≡ take len (drop off ps) =
       front_is ps off len place len k ∙ take_all (take len (drop off ps)) len (omega (arith, z)) in
       map_inside s l ∙ (places_whole i b at (take len (drop off ps)) len (front_length ps off len place len k)
-      ∙ ap (λ (v : Lent). Ok ((i, v), at)) (ap (lent b) (sym r) ∙ front_lent ps off len b place len k w))
+      ∙ ap (λ (v : Lent). Ok ((i, v), at))
+      (ap (lent b) (sym r) ∙ front_lent ps off len b place len k (omega (arith, w, e))
+      ∙ ap (lent_of place) (sym (t ∙ ap (λ (v : List ℕ). take len (drop place v)) q))))

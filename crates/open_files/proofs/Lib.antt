@@ -4,6 +4,7 @@ pub mod Standing
 pub mod Tables
 pub mod Sessions
 pub mod Mounting
-mod OneSession
-mod OneCall
-mod OneMount
+pub mod OneSession
+pub mod OneNode
+pub mod OneCall
+pub mod OneMount

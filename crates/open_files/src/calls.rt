@@ -1,4 +1,6 @@
 //! The calls on descriptors, written once for one image and for several.
+#![tactic(auto, using(crate::proofs::OneCall::asks))]
+
 ghost use Rattle.std.specs.Prelude.{◌≡◌, ℕ, true, length, take, drop, Option, Some, None, Ok, Err};
 ghost use Rattle.std.specs.Prelude.{MatchResult, MatchOption, option_map, ◌||◌, ◌≤◌};
 ghost use Rattle.rom_tree.specs.Tree.{is_directory, is_regular, is_link};

@@ -57,6 +57,16 @@ pub(crate) struct Several<'s, T> {
     pub(crate) mounts: &'s ArrayVec<Mount, 7>,
 }
 
+impl<'s, T> Several<'s, T> {
+    /// The images and mounts that are lent.
+    pub(crate) fn new(images: &'s Vec<T>, mounts: &'s ArrayVec<Mount, 7>) -> Self
+        ensures images { result.images.now ≡ images.now }
+        ensures mounts { result.mounts.now ≡ mounts.now }
+    {
+        Several { images, mounts }
+    }
+}
+
 impl<'s, T: Viewed> Served for Several<'s, T> {
     ghost Place = { MountedNode };
 

@@ -1,4 +1,6 @@
 //! The calls on one open node.
+#![tactic(auto, using(crate::proofs::Standing::node_asks))]
+
 ghost use Rattle.std.specs.Prelude.{◌≡◌, ℕ, length, take, drop, Option, Some, Ok, Err, MatchResult};
 ghost use Rattle.std.specs.Prelude.{MatchOption, option_map};
 ghost use Rattle.rom_tree.specs.Tree.{Node};

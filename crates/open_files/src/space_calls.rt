@@ -1,4 +1,6 @@
 //! The calls of sessions on several images with mounts.
+#![tactic(auto, using(crate::proofs::OneSession::slots_sound))]
+
 ghost use Rattle.std.specs.Prelude.{◌≡◌, ◌<◌, ◌≤◌, ℕ, length, take, drop, map, Option, Some, None};
 ghost use Rattle.std.specs.Prelude.{Ok, Err, MatchResult, MatchOption, option_map};
 ghost use Rattle.path_walk.specs.declared.error.WalkError.{WalkError};
@@ -94,10 +96,7 @@ impl<'a, T: TreeImage<'a>, const N: usize> Space<'a, T, N> {
         ensures images { images_in self.new ≡ images_in self.old }
     {
         let (image, node) = self.walk(path, true)?;
-        let images = Several {
-            images: &self.images,
-            mounts: &self.mounts,
-        };
+        let images = Several::new(&self.images, &self.mounts);
         Ok(calls::stat(&images, image, node))
     }
 
@@ -114,10 +113,7 @@ impl<'a, T: TreeImage<'a>, const N: usize> Space<'a, T, N> {
         ensures images { images_in self.new ≡ images_in self.old }
     {
         let (image, node) = self.walk(path, false)?;
-        let images = Several {
-            images: &self.images,
-            mounts: &self.mounts,
-        };
+        let images = Several::new(&self.images, &self.mounts);
         Ok(calls::stat(&images, image, node))
     }
 
@@ -133,10 +129,7 @@ impl<'a, T: TreeImage<'a>, const N: usize> Space<'a, T, N> {
         ensures images { images_in self.new ≡ images_in self.old }
     {
         let (image, node) = self.walk(path, false)?;
-        let images = Several {
-            images: &self.images,
-            mounts: &self.mounts,
-        };
+        let images = Several::new(&self.images, &self.mounts);
         calls::readlink(&images, image, node)
     }
 
@@ -155,10 +148,7 @@ impl<'a, T: TreeImage<'a>, const N: usize> Space<'a, T, N> {
         ensures images { images_in self.new ≡ images_in self.old }
     {
         let (image, node) = self.walk(path, true)?;
-        let images = Several {
-            images: &self.images,
-            mounts: &self.mounts,
-        };
+        let images = Several::new(&self.images, &self.mounts);
         let tables = &mut self.tables;
         calls::open(&images, &mut tables[session as usize], image, node)
     }
@@ -173,10 +163,7 @@ impl<'a, T: TreeImage<'a>, const N: usize> Space<'a, T, N> {
         ensures { (calls self.now session).fstat (state self.now) fd.0
             ≡ answer (viewed (labelled Some (λ s. s)) result) (state self.now) }
     {
-        let images = Several {
-            images: &self.images,
-            mounts: &self.mounts,
-        };
+        let images = Several::new(&self.images, &self.mounts);
         calls::fstat(&images, &self.tables[session as usize], fd)
     }
 
@@ -195,10 +182,7 @@ impl<'a, T: TreeImage<'a>, const N: usize> Space<'a, T, N> {
             (λ e. buf.new ≡ buf.old) }
         ensures images { images_in self.new ≡ images_in self.old }
     {
-        let images = Several {
-            images: &self.images,
-            mounts: &self.mounts,
-        };
+        let images = Several::new(&self.images, &self.mounts);
         let tables = &mut self.tables;
         calls::read(&images, &mut tables[session as usize], fd, buf)
     }
@@ -217,10 +201,7 @@ impl<'a, T: TreeImage<'a>, const N: usize> Space<'a, T, N> {
             ≡ answer (viewed (labelled Some lent_by) result) (state self.new) }
         ensures images { images_in self.new ≡ images_in self.old }
     {
-        let images = Several {
-            images: &self.images,
-            mounts: &self.mounts,
-        };
+        let images = Several::new(&self.images, &self.mounts);
         let tables = &mut self.tables;
         calls::lend(&images, &mut tables[session as usize], fd, max)
     }
@@ -244,10 +225,7 @@ impl<'a, T: TreeImage<'a>, const N: usize> Space<'a, T, N> {
         ensures { (calls self.now session).map_piece (state self.now) fd.0 off len
             ≡ answer (viewed (labelled Some lent_by) result) (state self.now) }
     {
-        let images = Several {
-            images: &self.images,
-            mounts: &self.mounts,
-        };
+        let images = Several::new(&self.images, &self.mounts);
         calls::map(&images, &self.tables[session as usize], fd, off, len)
     }
 
@@ -262,10 +240,7 @@ impl<'a, T: TreeImage<'a>, const N: usize> Space<'a, T, N> {
             ≡ answer result (state self.new) }
         ensures images { images_in self.new ≡ images_in self.old }
     {
-        let images = Several {
-            images: &self.images,
-            mounts: &self.mounts,
-        };
+        let images = Several::new(&self.images, &self.mounts);
         let tables = &mut self.tables;
         calls::seek(&images, &mut tables[session as usize], fd, position)
     }
@@ -289,10 +264,7 @@ impl<'a, T: TreeImage<'a>, const N: usize> Space<'a, T, N> {
             (λ e. Unit {0}) }
         ensures images { images_in self.new ≡ images_in self.old }
     {
-        let images = Several {
-            images: &self.images,
-            mounts: &self.mounts,
-        };
+        let images = Several::new(&self.images, &self.mounts);
         let tables = &mut self.tables;
         calls::readdir(&images, &mut tables[session as usize], fd)
     }
@@ -308,10 +280,7 @@ impl<'a, T: TreeImage<'a>, const N: usize> Space<'a, T, N> {
             ≡ answer result (state self.new) }
         ensures images { images_in self.new ≡ images_in self.old }
     {
-        let images = Several {
-            images: &self.images,
-            mounts: &self.mounts,
-        };
+        let images = Several::new(&self.images, &self.mounts);
         let tables = &mut self.tables;
         calls::rewind(&images, &mut tables[session as usize], fd)
     }
@@ -327,10 +296,7 @@ impl<'a, T: TreeImage<'a>, const N: usize> Space<'a, T, N> {
             ≡ answer result (state self.new) }
         ensures images { images_in self.new ≡ images_in self.old }
     {
-        let images = Several {
-            images: &self.images,
-            mounts: &self.mounts,
-        };
+        let images = Several::new(&self.images, &self.mounts);
         let tables = &mut self.tables;
         calls::close(&images, &mut tables[session as usize], fd)
     }

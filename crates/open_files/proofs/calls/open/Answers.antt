@@ -2,20 +2,11 @@ use Rattle.std.proofs.Common.{◌≡◌, Some, true, refl, sym, ◌∙◌}
 use Rattle.std.specs.Prelude.{◌||◌}
 use Rattle.rom_tree.specs.Tree.{is_directory, is_regular}
 use Rattle.rom_tree.specs.Image.{Image}
-use Rattle.rom_tree.proofs.Named.{has_node}
 use Rattle.open_files.specs.declared.slot.OpenNode.{OpenNode}
 use Rattle.open_files.specs.Slots.{View, IsImage, stands}
 use Rattle.open_files.proofs.Standing.{open_start}
 use Rattle.open_files.proofs.Tables.{open_full, open_lowest, open_sound}
 use Rattle.open_files.proofs.calls.open.Goals as goal
-
-pub is_openable-requires : goal.is_openable-requires
-is_openable-requires g c κs =
-    let v = g.I.Served.view c.args.images.now in (
-      (refl, tt),
-      has_node (g.T.Viewed.image c.image.result.now) c.args.node.0 (v.names.node c.requires.place.0)
-          (c.image.ensures.node c.args.node.0 c.requires.place.0 c.requires.place.1),
-    )
 
 pub returns-in_default-clause-reply : goal.returns-in_default-clause-reply
 returns-in_default-clause-reply g c = λ x e.

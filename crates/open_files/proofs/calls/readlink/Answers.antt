@@ -1,17 +1,9 @@
 use Rattle.std.proofs.Common.{◌≡◌, Some, Bool, true, false, refl, sym, ap, ◌∙◌}
 use Rattle.rom_tree.specs.Tree.{is_link}
 use Rattle.rom_tree.specs.Image.{image_node}
-use Rattle.rom_tree.proofs.Named.{has_node, has_link}
+use Rattle.rom_tree.proofs.Named.{has_link}
 use Rattle.open_files.specs.Machine.{read_link}
 use Rattle.open_files.proofs.calls.readlink.Goals as goal
-
-pub is_link_at-requires : goal.is_link_at-requires
-is_link_at-requires g c κs =
-    let v = g.I.Served.view c.args.images.now in (
-      (refl, tt),
-      has_node (g.T.Viewed.image c.image-holder.result.now) c.args.node.0 (v.names.node c.requires.0)
-          (c.image-holder.ensures.node c.args.node.0 c.requires.0 c.requires.1),
-    )
 
 pub link_piece-requires : goal.link_piece-requires
 link_piece-requires g c κs =

@@ -4,44 +4,32 @@ use Rattle.rom_tree.specs.declared.types.Stat.{Stat}
 use Rattle.rom_tree.specs.Tree.{Node, places_of}
 use Rattle.rom_tree.specs.Image.{Image, image_node, IsRun}
 use Rattle.rom_tree.proofs.Named.{node_by}
-use Rattle.rom_tree.proofs.Rows.{row_end}
 use Rattle.open_files.specs.Lending.{bytes_of}
-use Rattle.open_files.proofs.Copies.{copy_step, copy_length, run_text}
+use Rattle.open_files.proofs.Copies.{copy_step, copy_length, run_text, run_ends}
 use Rattle.open_files.proofs.copied.copy_bytes.Goals as goal
 
 pub bytes_at-requires : goal.bytes_at-requires
 bytes_at-requires g c =
-    let m : Image = g.T.Viewed.image c.args.image.now in
-    let nd = node_by m c.args.node.0 c.requires in
-    let x : Node = nd.0 in
-    let e : image_node m c.args.node.0 ≡ Some x = nd.1 in
-    let done : ℕ = c.loop-done.done in
-    let n : ℕ = c.lesser-count.result in
-    let i = c.loop-done.invariant in
-    let r : IsRun (places_of x) (c.args.at + done) c.in-Some.run' = c.in-Some.ensures.row x e in
-    let lc = c.lesser-count.ensures in
-    let lf = c.from.ensures in
-    let B : List ℕ = c.bytes-bytes.result.now in
-    let z = row_end m c.args.node.0 x (c.args.at + done) c.in-Some.run' e r in
-    let w : c.in-Some.run'.place + n ≤ length B = omega (arith, z, lc, lf, ap length c.bytes-bytes.ensures) in
-    w
+    let end = run_ends (g.T.Viewed.image c.args.image.now) c.args.node.0 (c.args.at + c.loop-done.done)
+    c.lesser-count.result c.in-Some.run' c.requires c.in-Some.ensures.row
+    (omega (arith, c.lesser-count.ensures, c.from.ensures)) in
+    omega (arith, end, ap length c.bytes-bytes.ensures)
 
 pub loop-done-smaller : goal.loop-done-smaller
 loop-done-smaller g c =
-    let m : Image = g.T.Viewed.image c.args.image.now in
-    let nd = node_by m c.args.node.0 c.requires in
-    let x : Node = nd.0 in
-    let e : image_node m c.args.node.0 ≡ Some x = nd.1 in
-    let done : ℕ = c.loop-done.done in
-    let n : ℕ = c.lesser-count.result in
+    let node = node_by (g.T.Viewed.image c.args.image.now) c.args.node.0 c.requires in
+    let run = c.in-Some.ensures.row node.0 node.1 in
     let i = c.loop-done.invariant in
-    let r : IsRun (places_of x) (c.args.at + done) c.in-Some.run' = c.in-Some.ensures.row x e in
-    let lc = c.lesser-count.ensures in
-    let lf = c.from.ensures in
-    let B : List ℕ = c.bytes-bytes.result.now in
-    let z = row_end m c.args.node.0 x (c.args.at + done) c.in-Some.run' e r in
-    let w : c.in-Some.run'.place + n ≤ length B = omega (arith, z, lc, lf, ap length c.bytes-bytes.ensures) in
-    omega (arith, lc, lf, r.some, c.loop-done-test.true, c.if-done-size.true, i.same, i.fits)
+    omega (
+      arith,
+      c.lesser-count.ensures,
+      c.from.ensures,
+      run.some,
+      c.loop-done-test.true,
+      c.if-done-size.true,
+      i.same,
+      i.fits,
+    )
 
 pub loop-done-preserved : goal.loop-done-preserved
 loop-done-preserved g c =
@@ -56,8 +44,9 @@ loop-done-preserved g c =
     let lc = c.lesser-count.ensures in
     let lf = c.from.ensures in
     let B : List ℕ = c.bytes-bytes.result.now in
-    let z = row_end m c.args.node.0 x (c.args.at + done) c.in-Some.run' e r in
-    let w : c.in-Some.run'.place + n ≤ length B = omega (arith, z, lc, lf, ap length c.bytes-bytes.ensures) in
+    let end = run_ends m c.args.node.0 (c.args.at + done) n c.in-Some.run' c.requires c.in-Some.ensures.row
+    (omega (arith, lc, lf)) in
+    let w : c.in-Some.run'.place + n ≤ length B = omega (arith, end, ap length c.bytes-bytes.ensures) in
     let old : List ℕ = c.loop-done.buf in
     let text : List ℕ = c.bytes_at.result.now in
     let new : List ℕ = c.copy_at.new.buf in

@@ -1,22 +1,16 @@
-use Rattle.std.proofs.Common.{rules}
 use Rattle.std.proofs.Common.{Some}
 use Rattle.open_files.specs.Calls.{viewed}
 use Rattle.open_files.specs.Slots.{calls_of, labelled, lent_by}
-use Rattle.open_files.proofs.OneSession.{view_of, slots_sound, still_sound, answers}
+use Rattle.open_files.proofs.OneSession.{still_sound, answers}
 use Rattle.open_files.proofs.space.Space.lend.Goals as goal
-
-pub lend-requires : goal.lend-requires
-lend-requires g c κs =
-    let h = slots_sound c.args.self.now c.args.session c.requires.session c.index-tables-session.result in
-    let w = c.args.self.now.narrow in
-    search rules
 
 pub invariant_of-self-clause-sound : goal.invariant_of-self-clause-sound
 invariant_of-self-clause-sound g c =
-    still_sound c.args.self.now c.args.session c.requires.session c.lend.new.slots c.lend.ensures.sound
+    still_sound c.args.self.now c.args.session c.requires.session c.new-images.ensures.images
+    c.new-images.ensures.mounts c.lend.new.slots c.lend.ensures.sound
 
 pub returns-clause-reply : goal.returns-clause-reply
 returns-clause-reply g c =
-    answers c.args.self.now c.args.session c.requires.session c.index-tables-session.result c.lend.new.slots
-    (λ t. (calls_of g.row.N (view_of c.args.self.now)).lend_piece t c.args.fd.0 c.args.max)
+    answers c.args.self.now c.args.session c.requires.session c.new-images.ensures.images c.new-images.ensures.mounts
+    c.index-tables-session.result c.lend.new.slots (λ v t. (calls_of g.row.N v).lend_piece t c.args.fd.0 c.args.max)
     (viewed (labelled Some lent_by) c.lend.result) c.lend.ensures.reply

@@ -1,35 +1,26 @@
-use Rattle.std.proofs.Common.{Some, Ok, true, ap, sym}
+use Rattle.std.proofs.Common.{Some, Ok, ap, sym}
 use Rattle.rom_tree.specs.declared.types.Stat.{Stat}
 use Rattle.rom_tree.specs.Image.{stat_of}
-use Rattle.open_files.specs.Calls.{answer}
+use Rattle.open_files.specs.Calls.{Of, answer, give}
 use Rattle.open_files.specs.Slots.{labelled}
-use Rattle.open_files.specs.Calls.{give, Of}
-use Rattle.open_files.specs.Machine.{Table}
-use Rattle.open_files.specs.SeenSpace.{images_in, state}
-use Rattle.open_files.proofs.OneSession.{walk_refused, walk_led, place_still}
-use Rattle.path_walk.specs.Graft.{MountedNode, graft}
-use Rattle.path_walk.specs.Resolution.{resolution}
+use Rattle.open_files.specs.SeenSpace.{state}
+use Rattle.open_files.proofs.OneSession.{is_walked, walk_refused, walk_led, place_still}
 use Rattle.open_files.proofs.space.Space.stat.Goals as goal
 
 pub returns-in_err-image-clause-reply : goal.returns-in_err-image-clause-reply
 returns-in_err-image-clause-reply g c =
-    let t = (state c.args.self.now).own c.args.session in
-    walk_refused c.args.self.now c.walk.new.self c.args.session c.in_err-image.ensures.images
-    c.in_err-image.ensures.mounts c.in_err-image.ensures.tables
-    (labelled Some (λ s. s)) c.from_residual.result c.in_err-image.field-0.0
-    (λ x. give {R = Of Stat} (Some x.image, stat_of x.node) t)
-    (resolution (graft (images_in c.args.self.now) c.args.self.now.mounts.items) c.args.path.now true)
-    c.in_err-image.ensures.leads c.from_residual.ensures.1
+    let w = is_walked c.args.self.now c.walk.new.self c.in_err-image.ensures.images c.in_err-image.ensures.mounts
+    c.in_err-image.ensures.tables in
+    walk_refused w c.args.session (λ t x. give {R = Of Stat} (Some x.image, stat_of x.node) t)
+    (labelled Some (λ s. s)) c.from_residual.result c.in_err-image.ensures.leads c.from_residual.ensures.1
 
 pub returns-clause-reply : goal.returns-clause-reply
 returns-clause-reply g c =
-    let t : Table MountedNode = (state c.args.self.now).own c.args.session in
+    let w = is_walked c.args.self.now c.walk.new.self c.in_ok-image.ensures.images c.in_ok-image.ensures.mounts
+    c.in_ok-image.ensures.tables in
     let p = c.in_ok-image.ensures.leads in
-    walk_led c.args.self.now c.walk.new.self c.args.session c.in_ok-image.ensures.images c.in_ok-image.ensures.mounts
-    c.in_ok-image.ensures.tables (Ok (labelled Some (λ s. s) c.stat.result))
-    (λ x. give {R = Of Stat} (Some x.image, stat_of x.node) t)
-    (resolution (graft (images_in c.args.self.now) c.args.self.now.mounts.items) c.args.path.now true) p.0 p.1
-    (ap (λ (z : Of Stat). answer (Ok z) t)
-    (sym (c.stat.ensures p.0 (place_still c.args.self.now c.walk.new.self c.args.session
-    c.in_ok-image.ensures.images c.in_ok-image.ensures.mounts c.in_ok-image.ensures.tables c.in_ok-image.image
-    c.in_ok-image.node.0 p.0 p.2))))
+    walk_led w c.args.session (λ t x. give {R = Of Stat} (Some x.image, stat_of x.node) t)
+    (Ok (labelled Some (λ s. s) c.stat.result)) p.0 p.1
+    (ap (λ (z : Of Stat). answer (Ok z) ((state c.args.self.now).own c.args.session))
+    (sym (c.stat.ensures p.0 (place_still w c.new-images.ensures.images c.new-images.result.mounts.now.items
+    c.in_ok-image.image c.in_ok-image.node.0 p.0 p.2))))
