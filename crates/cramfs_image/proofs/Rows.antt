@@ -167,7 +167,7 @@ module _ (o : Order) (b : List ℕ) (rows : List Row) (sorted : List File) (base
             ])),
         (λ h. subst (λ v. Contains v x) (sym w.is)
             (elim (Contains-append_cases base fs x
-                (Contains-permutation (extents_of o b rows) (base ++ fs) x whole h)) [
+            (Contains-permutation (extents_of o b rows) (base ++ fs) x whole h)) [
               | inl k ↦ Contains-append_left base w.more x k
               | inr k ↦ Contains-append_right base w.more x
                   (contains_of x w.more (All-contains (λ z. Member z w.more) fs x

@@ -1,8 +1,9 @@
 -- What a format can hold is what the tests of a line's misfits say.
-use Rattle.std.proofs.Common.{◌≡◌, ℕ, zero, suc, Bool, false, not, ◌==◌, nat_lt, inl, inr, refl}
+use Rattle.std.proofs.Common.{◌≡◌, ℕ, Bool, false, not, ◌==◌, nat_lt, inl, inr, refl}
 use Rattle.std.proofs.Common.{sym, ap, ◌∙◌, arith}
 use Rattle.std.specs.Prelude.{MatchOption}
 use Rattle.std.proofs.lemmas.Bool.{cases_lt, lt-ltb, le-ltb}
+use Rattle.std.proofs.lemmas.Bool.Decides.{eqb_tells}
 use Rattle.formats.specs.Capacity.{capacity_of}
 use Rattle.formats.specs.Format.{format_of}
 use Rattle.formats.specs.declared.format.Format as code
@@ -19,8 +20,10 @@ below n = elim (cases_lt n 16777216) [
 ]
 
 positive : (n : ℕ) → nat_lt 0 n ≡ not (n == 0)
-positive zero = refl
-positive (suc n) = refl
+positive n = elim (eqb_tells n 0) [
+  | inl h ↦ le-ltb 0 n (omega (arith, h)) ∙ sym (ap not h.0)
+  | inr h ↦ lt-ltb 0 n (omega (arith, h)) ∙ sym (ap not h.0)
+]
 
 pub large_is : (f : code.Format) (n : ℕ) → nat_lt (capacity_of f).file n ≡ tests.is_large (format_of f) n
 large_is Romfs n = refl
