@@ -1,5 +1,5 @@
 -- `IsPlanOfText`: a plan is that of the manifest that a text is. `form_in`, `stored_in`: the image
--- of a plan before its contents are known, and the check value, by the format. `image_with`: this
+-- of a plan before its contents are known, and the checksum, by the format. `image_with`: this
 -- image with the given bytes behind the superblock. `HasNoCopies`: no source occurs twice in the
 -- image. `IsBuiltOfSome`: bytes are the answer of a build to some contents of the planned sizes.
 -- (This project's own.)
@@ -28,7 +28,7 @@ abbrev pub form_in : Format → Planned → Form
 form_in romfs p = in_romfs.form_of p
 form_in (cramfs o) p = in_cramfs.form_of o p
 
--- the check value that the superblock stores: in romfs the balance of its words, in cramfs the
+-- the checksum that the superblock stores: in romfs the balance of its words, in cramfs the
 -- CRC-32
 abbrev pub stored_in : Format → List ℕ → ℕ
 stored_in romfs = balance_of

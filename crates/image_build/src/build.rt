@@ -169,12 +169,12 @@ pub fn build_cramfs_big(
 
 /// Writes the image of a plan, in the plan's format, through a buffer of the caller's, without
 /// taking memory, and flushes the writer. A larger buffer needs fewer reads and writes. The sources
-/// are read for their sizes, each at its last byte and one byte further; then for the check value,
+/// are read for their sizes, each at its last byte and one byte further; then for the checksum,
 /// as far as the value covers them; and then whole, for what is written.
 ///
 /// At `Ok`, exactly the image was written that a build in memory answers, if the contents of the
 /// sources are known. Otherwise a whole image was written, with some contents of the planned sizes
-/// and the check value of exactly these bytes. A check accepts it (`laws::streamed_is_accepted`).
+/// and the checksum of exactly these bytes. A check accepts it (`laws::streamed_is_accepted`).
 ///
 /// # Errors
 ///

@@ -2,7 +2,7 @@
 use crate::checked::{counts, fault};
 use cramfs_image::{Cramfs, crc32};
 use rom_faults::CheckError;
-use rom_fields::{part, put_le32};
+use rom_fields::{Extent, part, put_le32};
 use rom_tree::{Limits, NodeId, Report, TreeImage};
 use std::alloc::Global;
 use std::test::Fail;
@@ -149,6 +149,27 @@ fn nodes(rt: HostRuntime) -> Result<(), Fail> {
     assert!(rt; image.root() == NodeId(64));
     for (at, is_node) in [(76, true), (92, true), (108, false)] {
         assert!(rt; image.is_node(NodeId(at)) == is_node);
+    }
+    Ok(())
+}
+
+/// The superblock, the list of the root, and the pointer and the block of each of two files.
+#[test]
+fn extents(rt: HostRuntime) -> Result<(), Fail> {
+    let b = shared_table(b"a", b"b", 5);
+    let image = Cramfs::check(rt.alloc(), &b, Limits::usual()).map_err(|_| "is sound")?;
+    let extents = image.extents(rt.alloc())?;
+    let wanted = [
+        (Extent::Super, 0, 76),
+        (Extent::List, 76, 32),
+        (Extent::Table, 108, 4),
+        (Extent::Data, 112, 5),
+        (Extent::Table, 108, 4),
+        (Extent::Data, 112, 5),
+    ];
+    assert!(rt; extents.len() == wanted.len());
+    for (extent, (kind, start, len)) in extents.iter().zip(wanted) {
+        assert!(rt; extent.kind == kind && extent.start == start && extent.len == len);
     }
     Ok(())
 }

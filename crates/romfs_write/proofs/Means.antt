@@ -60,7 +60,7 @@ joined (x ∷ xs) ys k =
     let t = ap (λ (j : ℕ). weighted j ys) e in
     omega arith
 
--- zeros behind whole words do not change the check value
+-- zeros behind whole words do not change the checksum
 balance_before : (b : List ℕ) (n k : ℕ) → length b ≡ 4 * n
     → balance_of (b ++ replicate k 0) ≡ balance (words_total (take 512 b))
 unfolding balance_of

@@ -7,7 +7,7 @@ use Rattle.manifest.specs.FaultNumbers.{BAD_ALIGN, BAD_TARGET}
 abbrev pub manifest_sentence : ℕ → List ℕ
 manifest_sentence n =
     if n == BAD_WORD then
-    codes "an unknown word, a wrong number of fields, an empty one, or no b or c"
+    codes "an unknown word, a wrong number of fields, an empty field, or a nod line with neither b nor c"
     else (if n == BAD_NUMBER then
     codes "a mode is not four octal digits, or a number not decimal below 2^32"
     else (if n == BAD_PATH then

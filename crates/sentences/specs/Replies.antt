@@ -37,7 +37,7 @@ line_sentence text =
     if bytes_eq text (codes "bad command") then
     Some (codes "the first word is not a command")
     else (if bytes_eq text (codes "bad line") then
-    Some (codes "a word is missing, empty or too many, or the line has over 8,191 bytes")
+    Some (codes "too few or too many words, an empty word, or a line of over 8,191 bytes")
     else (if bytes_eq text (codes "bad number") then
     Some (codes "a number is not decimal below 2^32, or a read is of more than 4096 bytes")
     else (if bytes_eq text (codes "bad session") then

@@ -9,7 +9,8 @@ pub fn manifest_sentence(number: u32) -> &'static str
     ensures { result.now ≡ manifest_sentence number }
 {
     match number {
-        BAD_WORD => "an unknown word, a wrong number of fields, an empty one, or no b or c",
+        BAD_WORD =>
+            "an unknown word, a wrong number of fields, an empty field, or a nod line with neither b nor c",
         BAD_NUMBER => "a mode is not four octal digits, or a number not decimal below 2^32",
         BAD_PATH => "a path, a link's text or a volume's name is not valid",
         NO_PARENT => "no earlier line makes the directory that the path is in",

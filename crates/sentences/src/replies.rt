@@ -55,7 +55,7 @@ pub fn line_sentence(text: &[u8]) -> Option<&'static str>
         return Some("the first word is not a command");
     }
     if text == b"bad line".as_slice() {
-        return Some("a word is missing, empty or too many, or the line has over 8,191 bytes");
+        return Some("too few or too many words, an empty word, or a line of over 8,191 bytes");
     }
     if text == b"bad number".as_slice() {
         return Some("a number is not decimal below 2^32, or a read is of more than 4096 bytes");
