@@ -32,6 +32,7 @@ mod flash;
 mod foreseen;
 mod imaging;
 mod inventory;
+mod lister;
 mod making;
 mod origin;
 mod overlay;

@@ -1,13 +1,15 @@
 //! Prints the manifest of a directory.
-use crate::directories::{self, Directory, Reach, all_stayed, base, refused_entry};
+use crate::directories::{all_stayed, base};
+use crate::lister::{self, Survey};
 use crate::reporter::Reporter;
 use build_commands::{Found, put_scan};
 use command_line::Scan;
+use directory_walk::Entry;
 use program_streams::Again;
 use rom_commands::{Failure, Status};
 use rom_fields::{Failed, Plain};
-use std::alloc::AllocError;
-use std::fs::{self, DirEntry, FileType};
+use std::alloc::{AllocError, AllocFailed, Global};
+use std::fs::{FileType, Metadata};
 use std::io::{self, BufWriter};
 use std::os::unix::fs::FileTypeExt;
 
@@ -62,110 +64,62 @@ impl PassedOver {
     }
 }
 
-/// The files that are found below a directory, and its directories: those that are still to be
-/// entered, and those that were.
-#[derive(Drop)]
-struct Below {
-    found: Vec<Found>,
-    waiting: Vec<Directory>,
-    seen: Vec<Directory>,
-    passed: PassedOver,
-    reach: Reach,
-}
+/// The survey counts the files that it skips, and tells of each other one whether it is a
+/// directory.
+impl Survey for PassedOver {
+    type Printed = bool;
 
-impl Below {
-    /// Adds an entry of this name, if it is a regular file or a directory.
-    fn add(&mut self, rt: &HostRuntime, entry: &DirEntry, place: String) -> io::Result<()> {
-        let metadata = entry.metadata()?;
-        let is_directory = metadata.is_dir();
-        if is_directory && self.reach.has(&metadata) {
-            self.waiting.push(Directory::new(rt, &place, &metadata)?)?;
-        }
-        if is_directory || metadata.is_file() {
-            self.found.push(Found {
-                place,
-                is_directory,
-            })?;
-        } else {
-            self.passed.add(metadata.file_type());
-        }
-        Ok(())
+    fn excludes(&self, _alloc: Global, _path: &str) -> Result<bool, AllocError> {
+        Ok(false)
     }
 
-    /// Adds the regular files and the directories of a directory, which is opened by the name
-    /// `named`.
-    fn look_into(
+    fn report(
         &mut self,
-        reporter: &Reporter<'_>,
-        directory: &Directory,
-        named: &str,
-    ) -> Result<(), Status> {
-        directory.rest(reporter.rt);
-        let entries = match fs::read_dir(reporter.rt, named) {
-            Ok(entries) => entries,
-            Err(e) => return Err(reporter.refused(named.as_bytes(), &e)),
-        };
-        for entry in entries {
-            match entry {
-                Ok(entry) => self.add_named(reporter, &directory.place, &entry)?,
-                Err(e) => return Err(refused_entry(reporter, named, &e)),
-            }
+        _rt: &HostRuntime,
+        _place: &str,
+        metadata: &Metadata,
+    ) -> io::Result<Option<bool>> {
+        if metadata.is_dir() || metadata.is_file() {
+            return Ok(Some(metadata.is_dir()));
         }
-        Ok(())
+        self.add(metadata.file_type());
+        Ok(None)
     }
 
-    /// Adds an entry of a directory. Reports it if it cannot be read.
-    fn add_named(
+    fn note(
         &mut self,
         reporter: &Reporter<'_>,
-        directory: &str,
-        entry: &DirEntry,
+        name: &str,
+        why: &'static str,
     ) -> Result<(), Status> {
-        let Ok(place) = format!(in reporter.rt.alloc(); "{directory}/{}", entry.file_name()) else {
-            return Err(reporter.say(Failure::Memory));
-        };
-        match self.add(reporter.rt, entry, place) {
-            Ok(()) => Ok(()),
-            Err(e) => Err(reporter.refused(entry.path().as_str().as_bytes(), &e)),
-        }
+        Err(reporter.failed(name.as_bytes(), &why))
     }
 }
 
-/// The directory that is scanned, as the first one to enter.
-fn top(rt: &HostRuntime, scan: Scan<'_>) -> io::Result<Below> {
-    let metadata = directories::top(rt, scan.directory)?;
-    let mut waiting = Vec::new(rt.alloc());
-    waiting.push(Directory::new(rt, base(scan.directory), &metadata)?)?;
-    Ok(Below {
-        found: Vec::new(rt.alloc()),
-        waiting,
-        seen: Vec::new(rt.alloc()),
-        passed: PassedOver::default(),
-        reach: Reach::of(&metadata, scan.one_file_system),
-    })
+/// The entries of a walk, as they are printed.
+fn found_of(alloc: Global, entries: Vec<Entry<bool>>) -> Result<Vec<Found>, AllocFailed<Found>> {
+    let mut found = Vec::new(alloc);
+    for entry in entries {
+        found.push(Found {
+            place: entry.path,
+            is_directory: entry.metadata,
+        })?;
+    }
+    Ok(found)
 }
 
 /// All files below a directory, each directory before its entries, in the order of the bytes of
 /// paths. Reports a file that cannot be read, and a directory that changed during the scan. A name
 /// that is no UTF-8 is reported for its directory.
-fn all_below(reporter: &Reporter<'_>, scan: Scan<'_>) -> Result<Below, Status> {
-    let directory = scan.directory;
-    let mut below = match top(reporter.rt, scan) {
-        Ok(below) => below,
-        Err(e) => return Err(reporter.refused(directory.as_bytes(), &e)),
-    };
-    for _ in 0..u64::MAX {
-        let Some(waiting) = below.waiting.pop() else {
-            break;
-        };
-        below.look_into(reporter, &waiting, waiting.name(directory))?;
-        if below.seen.push(waiting).is_err() {
-            return Err(reporter.say(Failure::Memory));
-        }
-    }
-    all_stayed(reporter, directory, &below.seen)?;
-    match below.found.sort() {
-        Ok(()) => Ok(below),
+fn all_below(
+    reporter: &Reporter<'_>,
+    scan: Scan<'_>,
+    passed: &mut PassedOver,
+) -> Result<Vec<Found>, Status> {
+    let (_, walked) = lister::all_below(reporter, scan.directory, scan.one_file_system, passed)?;
+    all_stayed(reporter, scan.directory, &walked.directories)?;
+    match found_of(reporter.rt.alloc(), walked.entries) {
+        Ok(found) => Ok(found),
         Err(_) => Err(reporter.say(Failure::Memory)),
     }
 }
@@ -174,16 +128,17 @@ fn all_below(reporter: &Reporter<'_>, scan: Scan<'_>) -> Result<Below, Status> {
 /// status. Nothing is printed if one of the directories cannot be listed.
 pub fn run(reporter: &Reporter<'_>, scan: Scan<'_>) -> Status {
     let directory = scan.directory;
-    let below = match all_below(reporter, scan) {
-        Ok(below) => below,
+    let mut passed = PassedOver::default();
+    let found = match all_below(reporter, scan, &mut passed) {
+        Ok(found) => found,
         Err(status) => return status,
     };
     let Ok(out) = BufWriter::new(reporter.rt.alloc(), Again::new(io::writer(reporter.rt))) else {
         return reporter.say(Failure::Memory);
     };
-    match put_scan(&mut Plain::new(out), base(directory).len(), &below.found) {
+    match put_scan(&mut Plain::new(out), base(directory).len(), &found) {
         Ok(()) => {
-            below.passed.explain(reporter, directory);
+            passed.explain(reporter, directory);
             Status::Done
         }
         Err(Failed) => reporter.say(Failure::WriteFault),

@@ -1,0 +1,4 @@
+mod Orders
+mod Taken
+mod Walks
+mod Moved
