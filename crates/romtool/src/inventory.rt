@@ -121,7 +121,7 @@ impl Whole<'_> {
 }
 
 impl Survey for Whole<'_> {
-    type Printed = Reported;
+    type Known = Reported;
 
     fn excludes(&self, alloc: Global, path: &str) -> Result<bool, AllocError> {
         self.patterns.exclude(alloc, path)
@@ -171,7 +171,7 @@ fn add_all(
     let front = place.len();
     found.push(Reported::of(rt, base(top), metadata)?.named(place, front))?;
     for entry in entries {
-        found.push(entry.metadata.named(entry.path, front))?;
+        found.push(entry.known.named(entry.path, front))?;
     }
     Ok(())
 }

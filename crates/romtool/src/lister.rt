@@ -15,7 +15,7 @@ use std::os::unix::fs::MetadataExt;
 /// What a scan asks of each file.
 pub trait Survey {
     /// What is told of a file.
-    type Printed: Drop;
+    type Known: Drop;
 
     /// Returns whether the file of this path below the scanned directory is not examined.
     fn excludes(&self, alloc: Global, path: &str) -> Result<bool, AllocError>;
@@ -25,8 +25,8 @@ pub trait Survey {
         &mut self,
         rt: &HostRuntime,
         place: &str,
-        printed: &Metadata,
-    ) -> io::Result<Option<Self::Printed>>;
+        known: &Metadata,
+    ) -> io::Result<Option<Self::Known>>;
 
     /// Notes or reports that a name, or a name in the directory of this name, is no UTF-8.
     fn note(
@@ -53,9 +53,9 @@ impl<'a, S: Survey> SystemLister<'a, S> {
         &mut self,
         path: String,
         entry: &DirEntry,
-    ) -> io::Result<Option<Listed<S::Printed, Stamp>>> {
+    ) -> io::Result<Option<Listed<S::Known, Stamp>>> {
         let attributes = entry.metadata()?;
-        let Some(printed) = self.survey.report(self.reporter.rt, &path, &attributes)? else {
+        let Some(known) = self.survey.report(self.reporter.rt, &path, &attributes)? else {
             return Ok(None);
         };
         let is_near = self.device.is_none_or(|device| device == attributes.dev());
@@ -66,7 +66,7 @@ impl<'a, S: Survey> SystemLister<'a, S> {
         };
         Ok(Some(Listed {
             path,
-            printed,
+            known,
             state,
         }))
     }
@@ -74,7 +74,7 @@ impl<'a, S: Survey> SystemLister<'a, S> {
     /// Adds an entry with this name. Reports it if it cannot be read.
     fn add(
         &mut self,
-        listed: &mut Vec<Listed<S::Printed, Stamp>>,
+        listed: &mut Vec<Listed<S::Known, Stamp>>,
         path: String,
         entry: &DirEntry,
     ) -> Result<(), Status> {
@@ -102,7 +102,7 @@ impl<'a, S: Survey> SystemLister<'a, S> {
 }
 
 impl<'a, S: Survey> Lister for SystemLister<'a, S> {
-    type Printed = S::Printed;
+    type Known = S::Known;
 
     type State = Stamp;
 
@@ -116,7 +116,7 @@ impl<'a, S: Survey> Lister for SystemLister<'a, S> {
     fn list(
         &mut self,
         directory: &Directory<Stamp>,
-    ) -> Result<Vec<Listed<S::Printed, Stamp>>, Status> {
+    ) -> Result<Vec<Listed<S::Known, Stamp>>, Status> {
         let (reporter, alloc) = (self.reporter, self.reporter.rt.alloc());
         let_rest(reporter.rt, &[directory.state]);
         let named = opened_name(directory, self.top);
@@ -154,7 +154,7 @@ pub fn all_below<S: Survey>(
     top: &str,
     one_file_system: bool,
     survey: &mut S,
-) -> Result<(Metadata, Walked<S::Printed, Stamp>), Status> {
+) -> Result<(Metadata, Walked<S::Known, Stamp>), Status> {
     let (reporter, alloc) = (*reporter, reporter.rt.alloc());
     let attributes = match directories::top(reporter.rt, top) {
         Ok(attributes) => attributes,

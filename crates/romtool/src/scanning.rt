@@ -67,7 +67,7 @@ impl PassedOver {
 /// The survey counts the files that it skips, and tells of each other one whether it is a
 /// directory.
 impl Survey for PassedOver {
-    type Printed = bool;
+    type Known = bool;
 
     fn excludes(&self, _alloc: Global, _path: &str) -> Result<bool, AllocError> {
         Ok(false)
@@ -102,7 +102,7 @@ fn found_of(alloc: Global, entries: Vec<Entry<bool>>) -> Result<Vec<Found>, Allo
     for entry in entries {
         found.push(Found {
             place: entry.path,
-            is_directory: entry.metadata,
+            is_directory: entry.known,
         })?;
     }
     Ok(found)
