@@ -1,0 +1,6 @@
+mod Noted
+mod Inside
+mod Steps
+mod Making
+mod Rights
+mod Refusals
