@@ -1,6 +1,7 @@
 //! The nearest attributes that a format can hold.
 ghost use Rattle.std.specs.Prelude.{◌≡◌};
-ghost use Rattle.build_commands.specs.Nearest.{is_runnable, mode_within, nearest_in, romfs_mode, within};
+ghost use Rattle.build_commands.specs.Nearest.{is_runnable, mode_within, nearest_in};
+ghost use Rattle.build_commands.specs.Nearest.{romfs_mode, within};
 ghost use Rattle.manifest.specs.Entries.{line_of};
 
 use formats::{Capacity, Format};

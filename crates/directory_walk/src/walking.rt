@@ -1,9 +1,10 @@
 //! The walk.
 ghost use Rattle.std.specs.Prelude.{◌≡◌, [], ◌∷◌, ◌++◌, IfOk, IfErr, IsPermutation, string_bytes};
-ghost use Rattle.directory_walk.specs.Trees.{IsTop, AreAllBelow, AreInOrder, entered};
-ghost use Rattle.directory_walk.specs.Views.{IsRefusal, names_of, paths_of};
+ghost use Rattle.directory_walk.specs.Trees.{Tree, IsDirectoryOf, IsReached, IsTop, AreAllBelow};
+ghost use Rattle.directory_walk.specs.Trees.{AreInOrder, entered};
+ghost use Rattle.directory_walk.specs.Views.{IsListing, IsRefusal, names_of, paths_of};
 
-use crate::lister::{Directory, Entry, Lister};
+use crate::lister::{Directory, Entry, Listed, Lister};
 use crate::sorting::sort;
 use crate::taking::take_in;
 use rom_fields::OutOfMemory;
@@ -41,6 +42,28 @@ fn only<S: Drop>(alloc: Global, top: Directory<S>) -> Result<Vec<Directory<S>>, 
     Ok(waiting)
 }
 
+/// Lists a directory, and returns it with its entries. An error comes with its path.
+fn list_one<L: Lister>(
+    lister: &mut L,
+    directory: Directory<L::State>,
+) -> Result<(Directory<L::State>, Vec<Listed<L::Known, L::State>>), WalkError<L::Error>>
+    ensures known { (g : Tree L.Known)
+        → IsDirectoryOf (L.tree lister.old) (string_bytes directory.path) g
+        → IfOk result (λ r. IsListing (string_bytes directory.path) g r.1.items) }
+    ensures path { IfOk result (λ r. string_bytes r.0.path ≡ string_bytes directory.path) }
+    ensures same { L.tree lister.new ≡ L.tree lister.old }
+    ensures error { IsReached (L.tree lister.old) (string_bytes directory.path)
+        → IfErr result (λ e. IsRefusal (L.tree lister.old) (L.refuses lister.new) e) }
+{
+    match lister.list(&directory) {
+        Ok(listed) => Ok((directory, listed)),
+        Err(error) => {
+            let path = directory.path;
+            Err(WalkError::Refused(Refusal { path, error }))
+        }
+    }
+}
+
 /// Lists a directory, and all directories that are found so, the last one first.
 fn visit<L: Lister>(
     alloc: Global,
@@ -67,12 +90,9 @@ fn visit<L: Lister>(
                 directories,
             });
         };
-        let listed = match lister.list(&directory) {
-            Ok(listed) => listed,
-            Err(error) => {
-                let path = directory.path;
-                return Err(WalkError::Refused(Refusal { path, error }));
-            }
+        let (directory, listed) = match list_one(lister, directory) {
+            Ok(both) => both,
+            Err(e) => return Err(e),
         };
         match take_in(&mut entries, &mut waiting, listed) {
             Ok(()) => {}

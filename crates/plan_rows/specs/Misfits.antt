@@ -1,5 +1,6 @@
--- `without_bytes`, `size_by`: the kind and the size of a line's file. `exceeds`: an attribute is more
--- than a format can hold. `misfit_fault`: a misfit of the code as a fault. (This project's own.)
+-- `without_bytes`, `size_by`: the kind and the size of a line's file. `exceeds`: an attribute is
+-- more than a format can hold. `misfit_fault`: a misfit of the code as a fault. (This project's
+-- own.)
 use Rattle.std.specs.Prelude.{ℕ, ◌==◌, ◌||◌, ◌&&◌, Bool, nat_lt, not, length, Option, Some, None}
 use Rattle.formats.specs.declared.capacity.Capacity.{Capacity}
 use Rattle.romfs_format.specs.Tree.{mode_named}

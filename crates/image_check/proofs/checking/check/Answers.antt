@@ -9,7 +9,8 @@ returns-in_err-check-in-Romfs-clause-fault c =
     let b = begins_romfs c.in-Some.format c.args.bytes.now c.in-Romfs.is c.in-Some.ensures.begins in
     err_by c.from_residual.result c.from_residual.ensures.1 (λ e is.
     subst (IsRefused c.args.bytes.now c.args.limits) (sym is)
-    (refused_romfs c.args.bytes.now c.args.limits c.in_err-check-in-Romfs.field-0.0 b c.in_err-check-in-Romfs.ensures.fault))
+    (refused_romfs c.args.bytes.now c.args.limits c.in_err-check-in-Romfs.field-0.0 b
+    c.in_err-check-in-Romfs.ensures.fault))
 
 pub returns-in_err-check-in-Cramfs-clause-fault : goal.returns-in_err-check-in-Cramfs-clause-fault
 returns-in_err-check-in-Cramfs-clause-fault c =
