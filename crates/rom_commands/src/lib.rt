@@ -20,6 +20,7 @@ pub use asked::Asked;
 pub use copying::{Copied, NoFile, copy, print_file};
 pub use example::hello;
 pub use printing::{complain, print};
+pub use room::image_size;
 pub use serving::{
     Serving, complain_of_fault, refuse, serve_checked, serve_image, serve_on, serve_under,
 };

@@ -2,6 +2,7 @@
 ghost use Rattle.std.specs.Prelude.{◌≡◌, nat_lt, not, IfOk, IfErr};
 ghost use Rattle.rom_fields.specs.Failures.{Counts};
 ghost use Rattle.rom_fields.specs.Written.{Puts, WritesText, sink};
+ghost use Rattle.image_check.specs.Any.{size_of};
 ghost use Rattle.image_info.specs.Gaps.{gaps_of, IsChecked};
 ghost use Rattle.image_info.specs.declared.info.InfoError.TheVariants as info;
 ghost use Rattle.image_info.specs.Info.{number_line};
@@ -11,6 +12,13 @@ use image_check::AnyImage;
 use image_info::{InfoError, count_gaps};
 use rom_fields::{ByteWrite, Failed, put, put_long_decimal};
 use std::alloc::Global;
+
+/// Returns the number of bytes of an image, as its superblock states it.
+pub fn image_size(image: &AnyImage<'_>) -> u64
+    ensures { result ≡ size_of image.now }
+{
+    image.size() as u64
+}
 
 /// How many of these bytes are unused.
 pub(crate) fn free_bytes(alloc: Global, image: &AnyImage<'_>) -> Result<u64, InfoError>

@@ -5,7 +5,8 @@ ghost use Rattle.rom_fields.specs.Written.{WritesText};
 ghost use Rattle.rom_tree.specs.Tree.{IsShallow};
 ghost use Rattle.image_info.specs.Endings.{WritesAll};
 ghost use Rattle.image_info.specs.Info.{info_text};
-ghost use Rattle.image_check.specs.Any.{any_view, report_of};
+ghost use Rattle.formats.specs.Format.{name_of};
+ghost use Rattle.image_check.specs.Any.{any_view, image_format, report_of};
 ghost use Rattle.image_info.specs.Gaps.{IsChecked};
 ghost use Rattle.rom_commands.specs.Lines.{fault_line, ok_line};
 ghost use Rattle.rom_commands.specs.Asked.{sound_text, takes_fault, warns, Fits};
@@ -15,7 +16,7 @@ ghost use Rattle.rom_commands.specs.declared.shown.Outcome.{Outcome};
 
 use crate::asked::Asked;
 use crate::fault::put_fault;
-use crate::room::{free_bytes, write_room};
+use crate::room::{free_bytes, image_size, write_room};
 use image_check::{AnyImage, check};
 use image_info::{InfoError, map, write_info};
 use linux_misreads::misreads;
@@ -82,6 +83,13 @@ pub(crate) fn write_fault_line<W: ByteWrite>(w: &mut W, number: u32, at: u32) ->
     if failed { Err(Failed) } else { Ok(()) }
 }
 
+/// The name of an image's format.
+fn format_name(image: &AnyImage) -> &'static [u8]
+    ensures { result.now ≡ name_of (image_format image.now) }
+{
+    image.format().name().as_bytes()
+}
+
 /// Writes the line of a valid image.
 fn write_ok_line<W: ByteWrite>(w: &mut W, format: &[u8], report: Report) -> Result<(), Failed>
     ensures text { WritesText (W.output w.old).contents (W.output w.new).contents result
@@ -131,7 +139,7 @@ fn write_fit<W: ByteWrite>(
         (info_text file image.now ++ room_text limit image.now) result }
     ensures warns { IfOk result (λ b. b ≡ not (fits limit image.now)) }
 {
-    let (free, size) = (free_bytes(alloc, image)?, u64::from(image.size()));
+    let (free, size) = (free_bytes(alloc, image)?, image_size(image));
     match write_info(alloc, image, file, w) {
         Ok(()) => match write_room(w, free, size, limit) {
             Ok(()) => Ok(limit < size),
@@ -155,7 +163,7 @@ fn write_sound<W: ByteWrite>(
     ensures warns { IfOk result (λ b. b ≡ warns asked image.now) }
 {
     match asked {
-        Asked::Report => match write_ok_line(w, image.format().name().as_bytes(), image.report()) {
+        Asked::Report => match write_ok_line(w, format_name(image), image.report()) {
             Ok(()) => Ok(false),
             Err(_) => Err(InfoError::WriteFault),
         },
