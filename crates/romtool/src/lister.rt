@@ -64,11 +64,7 @@ impl<'a, S: Survey> SystemLister<'a, S> {
         } else {
             None
         };
-        Ok(Some(Listed {
-            path,
-            known,
-            state,
-        }))
+        Ok(Some(Listed { path, known, state }))
     }
 
     /// Adds an entry with this name. Reports it if it cannot be read.
