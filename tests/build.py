@@ -250,6 +250,17 @@ def nothing_on_a_pipe(binary):
         yield "%r" % (answer(done),)
 
 
+def all_of(terminal):
+    """Returns what was written to a pseudo-terminal that nobody has open any more. It may come in several pieces."""
+    pieces = []
+    try:
+        while piece := os.read(terminal, 65536):
+            pieces.append(piece)
+    except OSError:  # EIO is the end
+        pass
+    return b"".join(pieces)
+
+
 def progress_on_a_terminal(binary):
     """It is reported if standard error is one, and erased at the end."""
     with open("source", "wb") as file:
@@ -262,7 +273,7 @@ def progress_on_a_terminal(binary):
         return
     done = run(binary, "build", "romfs", "manifest", "out", stderr=theirs)
     os.close(theirs)
-    told = os.read(ours, 65536)
+    told = all_of(ours)
     os.close(ours)
     if done.returncode or b"\r50 %" not in told or not told.endswith(b"\r      \r"):
         yield "%d, %r" % (done.returncode, told[-200:])
