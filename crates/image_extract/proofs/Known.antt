@@ -1,0 +1,116 @@
+-- The members of an image as the code has them.
+use Rattle.std.proofs.Common.{◌≡◌, ◌≢◌, ℕ, zero, suc, ◌<◌, true, false, List, [], ◌∷◌, ◌++◌, length, take, get_or}
+use Rattle.std.proofs.Common.{Option, map, refl, sym, ap, subst, ◌∙◌, append_assoc, append-nil, arith}
+use Rattle.std.specs.Prelude.{Result, Ok, Err, OnOk}
+use Rattle.std.specs.Io.KnownBytes.{Appends}
+use Rattle.rom_fields.specs.Written.{WritesText}
+use Rattle.rom_tree.specs.Image.{Image, image_node}
+use Rattle.rom_tree.specs.Names.{Name, names, node_names}
+use Rattle.rom_tree.specs.Tree.{IsIn, here, there, nodes, kind_of}
+use Rattle.rom_tree.proofs.Nodes.{node_at-in}
+use Rattle.image_manifest.specs.declared.naming.Member.{Member}
+use Rattle.image_manifest.specs.Members.{Known, AreMembers, all_behind, known_behind, known_of, members_of}
+use Rattle.image_manifest.proofs.Behind.{as_many}
+use Rattle.image_manifest.proofs.Lined.{names_nodes}
+use Rattle.tree_extract.specs.Extracted.{is_file}
+use Rattle.tree_extract.specs.Members.{Member as Made, kind_at, member_at}
+use Rattle.tree_extract.specs.declared.tree.Kind.TheVariants.{Symlink, Nothing}
+use Rattle.image_extract.specs.Known.{IsKnown}
+use Rattle.image_extract.specs.Members.{made_of, member_behind, members_in, root_of}
+use Rattle.image_extract.proofs.Indexed.{length-members, member_is}
+
+in_at : (ns : List Name) (i : ℕ) (e : Name) → i < length ns → IsIn (get_or ns i e).node (map (λ n. n.node) ns)
+in_at [] i e h = absurd (omega (arith, h))
+in_at (n ∷ ns) zero e h = here
+in_at (n ∷ ns) (suc i) e h = there (in_at ns i e (omega (arith, h)))
+
+-- the node of a name is one of the tree
+pub node_in : (m : Image) (k : ℕ) → k < length (node_names [] m.tree)
+    → IsIn (get_or (node_names [] m.tree) k (root_of m)).node (nodes m.tree)
+unfolding names
+node_in m k h =
+    subst (IsIn (get_or (node_names [] m.tree) k (root_of m)).node) (names_nodes m.tree)
+    (there (in_at (node_names [] m.tree) k (root_of m) h))
+
+pub root_in : (m : Image) → IsIn m.tree (nodes m.tree)
+unfolding names
+root_in m = subst (IsIn m.tree) (names_nodes m.tree) here
+
+head_is : (a b : Known) (xs ys : List Known) → a ∷ xs ≡ b ∷ ys → a ≡ b
+head_is a b xs ys is = cc
+
+tail_is : (a b : Known) (xs ys : List Known) → a ∷ xs ≡ b ∷ ys → xs ≡ ys
+tail_is a b xs ys is = cc
+
+never_some : (a : Known) (xs : List Known) → a ∷ xs ≡ [] → ⊥
+never_some a xs is = cc
+
+-- what a member has
+known_at : (before ns : List Name) (ms : List Member) (i : ℕ) (d : Member) (e : Name)
+    → map known_of ms ≡ all_behind before ns → i < length ms
+    → known_of (get_or ms i d) ≡ known_behind (before ++ take i ns) (get_or ns i e)
+known_at before ns [] i d e is h = absurd (omega (arith, h))
+known_at before [] (x ∷ ms) i d e is h = absurd (never_some (known_of x) (map known_of ms) is)
+known_at before (n ∷ ns) (x ∷ ms) zero d e is h =
+    head_is (known_of x) (known_behind before n) (map known_of ms) (all_behind (before ++ n ∷ []) ns) is
+    ∙ ap (λ (v : List Name). known_behind v n) (sym (append-nil before))
+known_at before (n ∷ ns) (x ∷ ms) (suc i) d e is h =
+    known_at (before ++ n ∷ []) ns ms i d e
+    (tail_is (known_of x) (known_behind before n) (map known_of ms) (all_behind (before ++ n ∷ []) ns) is)
+    (omega (arith, h))
+    ∙ ap (λ (v : List Name). known_behind v (get_or ns i e)) (append_assoc before (n ∷ []) (take i ns))
+
+pub many : (m : Image) (ms : List Member) → AreMembers m ms → length ms ≡ length (members_in m)
+unfolding members_of names members_in
+many m ms are =
+    as_many ms (names m.tree) are.known ∙ ap suc (sym (length-members m (root_of m ∷ []) (node_names [] m.tree)))
+
+pub is_within : (m : Image) (ms : List Member) (i : ℕ) → AreMembers m ms → i < length (members_in m) → i < length ms
+is_within m ms i are h = subst (λ (n : ℕ). i < n) (sym (many m ms are)) h
+
+pub known : (m : Image) (ms : List Member) (i : ℕ) (d : Member) → AreMembers m ms → i < length ms → i ≢ 0
+    → IsKnown m i (get_or ms i d)
+unfolding members_of names members_in
+known m ms zero d are h some = absurd (some refl)
+known m ms (suc k) d are h some =
+    let ns : List Name = node_names [] m.tree in
+    let n : Name = get_or ns k (root_of m) in
+    let all : length ms ≡ suc (length ns) = as_many ms (names m.tree) are.known in
+    let within : k < length ns = omega (arith, h, all) in
+    let is : known_of (get_or ms (suc k) d) ≡ known_behind (root_of m ∷ take k ns) n =
+    known_at [] (names m.tree) ms (suc k) d (root_of m) are.known h in
+    let at_is : member_at (members_in m) (suc k) ≡ member_behind m (root_of m ∷ take k ns) n =
+    member_is m (root_of m ∷ []) ns k (root_of m) within in
+    record {
+      node = n.node;
+      at = ap (λ (v : Known). image_node m v.number) is ∙ node_at-in m.tree n.node m.coherent (node_in m k within);
+      kind = ap (λ (v : Made). v.kind) at_is ∙ ap (λ (v : Known). made_of (kind_of n.node) v.first) (sym is);
+      bytes = ap (λ (v : Made). v.bytes) at_is;
+    }
+
+-- ---- nothing is made of the root
+
+pub root_nothing : (m : Image) → kind_at (members_in m) 0 ≡ Nothing
+unfolding members_in
+root_nothing m = refl
+
+pub no_file : (m : Image) (i : ℕ) → is_file (kind_at (members_in m) i) ≡ true → i ≢ 0
+no_file m i file root =
+    never (ap is_file (sym (root_nothing m)) ∙ ap (λ (k : ℕ). is_file (kind_at (members_in m) k)) (sym root) ∙ file)
+  where
+    never : false ≡ true → ⊥
+    never h = cc
+
+pub no_link : (m : Image) (i : ℕ) → kind_at (members_in m) i ≡ Symlink → i ≢ 0
+no_link m i link root =
+    never (sym (root_nothing m) ∙ ap (λ (k : ℕ). kind_at (members_in m) k) (sym root) ∙ link)
+  where
+    never : Nothing ≡ Symlink → ⊥
+    never h = cc
+
+-- ---- what is written
+
+pub whole_at_ok : {A E : Type 0} (r : Result A E) (old new : Option (List ℕ)) (text bytes : List ℕ)
+    → WritesText old new r text → bytes ≡ text → OnOk r (Appends old new bytes)
+whole_at_ok (Ok a) old new text bytes h is = subst (λ (v : List ℕ). Appends old new v) (sym is) h
+whole_at_ok (Err e) old new text bytes h is = tt

@@ -1,0 +1,4 @@
+mod Indexed
+mod Known
+mod Apart
+mod Extractable

@@ -1,0 +1,52 @@
+-- `members_in`: the names of an image as the members of a tree that is extracted. (This project's
+-- own.)
+use Rattle.std.specs.Prelude.{ℕ, List, [], ◌∷◌, ◌++◌, Option, Some, None}
+use Rattle.rom_tree.specs.declared.types.Kind.{Kind as NodeKind}
+use Rattle.rom_tree.specs.declared.types.Kind.TheVariants as node
+use Rattle.rom_tree.specs.Image.{Image, contents_of}
+use Rattle.rom_tree.specs.Names.{Name, named, node_names}
+use Rattle.rom_tree.specs.Tree.{kind_of}
+use Rattle.image_manifest.specs.Members.{first_behind}
+use Rattle.tree_extract.specs.declared.tree.Kind.{Kind}
+use Rattle.tree_extract.specs.declared.tree.Kind.TheVariants.{Directory, File, Further, Symlink}
+use Rattle.tree_extract.specs.declared.tree.Kind.TheVariants.{Nothing}
+use Rattle.tree_extract.specs.Members.{Member}
+
+-- what is made of a regular file, by the index of an earlier name of it
+abbrev pub file_by : Option ℕ → Kind
+file_by None = File
+file_by (Some first) = Further first
+
+-- what is made of a node; nothing of a device, a pipe or a socket
+abbrev pub made_of : NodeKind → Option ℕ → Kind
+made_of node.Directory first = Directory
+made_of node.Regular first = file_by first
+made_of node.Symlink first = Symlink
+made_of node.Block first = Nothing
+made_of node.Character first = Nothing
+made_of node.Socket first = Nothing
+made_of node.Fifo first = Nothing
+
+-- what is made of a name, behind others
+abbrev pub member_behind : Image → List Name → Name → Member
+member_behind m before n = record {
+  path = n.path;
+  kind = made_of (kind_of n.node) (first_behind before n.node);
+  bytes = contents_of m.bytes n.node;
+}
+
+abbrev pub members_behind : Image → List Name → List Name → List Member
+members_behind m before [] = []
+members_behind m before (n ∷ ns) =
+    member_behind m before n ∷ members_behind m (before ++ n ∷ []) ns
+
+-- the root's name
+abbrev pub root_of : Image → Name
+root_of m = named (47 ∷ []) [] m.tree
+
+-- The names of an image in preorder. The root's is the directory that is extracted into, which
+-- exists.
+unfoldable pub members_in : Image → List Member
+members_in m =
+    record { path = 47 ∷ []; kind = Nothing; bytes = [] }
+    ∷ members_behind m (root_of m ∷ []) (node_names [] m.tree)

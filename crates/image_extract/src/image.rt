@@ -1,0 +1,78 @@
+//! An image as a tree that is extracted.
+ghost use Rattle.std.specs.Prelude.{◌≡◌, ◌≢◌, ◌<◌, length};
+ghost use Rattle.image_manifest.specs.Members.{AreMembers};
+ghost use Rattle.image_extract.specs.Members.{made_of as made};
+
+use image_info::cat;
+use image_manifest::Member;
+use rom_fields::{ByteWrite, Failed};
+use rom_tree::{Kind as NodeKind, TreeImage, link_text};
+use tree_extract::{Kind, Tree};
+
+/// An image and its members, which are those that `image_manifest::members` returns.
+#[derive(Drop)]
+pub struct ImageTree<'b, 'a, T: TreeImage<'a>> {
+    pub image: &'b T,
+    pub members: &'b [Member<'a>],
+    ghost are: { AreMembers (T.image image.now) members.now },
+}
+
+/// Returns what is made of a node of this kind, by the index of an earlier name of it.
+fn made_of(kind: NodeKind, first: Option<usize>) -> Kind
+    ensures { result ≡ made kind first }
+{
+    match kind {
+        NodeKind::Directory => Kind::Directory,
+        NodeKind::Regular => match first {
+            Some(first) => Kind::Further(first),
+            None => Kind::File,
+        },
+        NodeKind::Symlink => Kind::Symlink,
+        NodeKind::Block => Kind::Nothing,
+        NodeKind::Character => Kind::Nothing,
+        NodeKind::Socket => Kind::Nothing,
+        NodeKind::Fifo => Kind::Nothing,
+    }
+}
+
+impl<'b, 'a, T: TreeImage<'a>> ImageTree<'b, 'a, T> {
+    ghost use Rattle.image_extract.specs.Known.{IsKnown};
+
+    /// Returns the member at an index that is not the root's.
+    fn member(&self, index: usize) -> Member<'a>
+        requires within { index < length self.now.members.now }
+        requires inner { index ≢ 0 }
+        ensures { IsKnown (T.image self.now.image.now) index result }
+    {
+        self.members[index]
+    }
+}
+
+impl<'b, 'a, T: TreeImage<'a>> Tree for ImageTree<'b, 'a, T> {
+    ghost use Rattle.image_extract.specs.Members.{members_in};
+
+    ghost members = { λ s. members_in (T.image s.image.now) };
+
+    fn len(&self) -> usize {
+        self.members.len()
+    }
+
+    fn kind(&self, index: usize) -> Kind {
+        if index == 0 {
+            return Kind::Nothing;
+        }
+        let found = self.member(index);
+        made_of(self.image.stat(found.node).kind, found.first)
+    }
+
+    fn write_contents<W: ByteWrite>(&self, index: usize, w: &mut W) -> Result<(), Failed> {
+        let found = self.member(index);
+        cat(self.image, found.node, w)
+    }
+
+    fn link_text(&self, index: usize) -> &[u8] {
+        let found = self.member(index);
+        let text: &'a [u8] = link_text(self.image, found.node);
+        text
+    }
+}
