@@ -1,5 +1,6 @@
 -- The names of an image with a lawful tree can be extracted.
-use Rattle.std.proofs.Common.{◌≡◌, ◌≢◌, ℕ, zero, suc, ◌<◌, Bool, true, false, cond, List, [], ◌∷◌, ◌++◌, length, take, get_or}
+use Rattle.std.proofs.Common.{◌≡◌, ◌≢◌, ℕ, zero, suc, ◌<◌, Bool, true, false, cond, List, [], ◌∷◌, ◌++◌, length, take}
+use Rattle.std.proofs.Common.{get_or}
 use Rattle.std.proofs.Common.{Option, Some, None, refl, sym, ap, subst, ◌∙◌, arith, length-take-le}
 use Rattle.std.proofs.lemmas.List.{get_or-take, take-take}
 use Rattle.std.specs.Prelude.{◌==◌}
@@ -10,7 +11,8 @@ use Rattle.manifest_tree.specs.Shape.{node_under}
 use Rattle.rom_tree.specs.declared.types.Kind.TheVariants as node_kind
 use Rattle.rom_tree.specs.Image.{Image, find_entry}
 use Rattle.rom_tree.specs.Names.{Name, node_names}
-use Rattle.rom_tree.specs.Tree.{Node, node, directory, regular, symlink, block, character, socket, fifo, entries_of, nodes}
+use Rattle.rom_tree.specs.Tree.{Node, node, directory, regular, symlink, block, character, socket, fifo, entries_of}
+use Rattle.rom_tree.specs.Tree.{nodes}
 use Rattle.rom_tree.specs.Tree.{ino_of, kind_of, is_directory, IsIn}
 use Rattle.image_manifest.specs.ByPaths.{has_slash}
 use Rattle.image_manifest.specs.Describable.{IsLawfulName, IsLawfulTree}
@@ -251,16 +253,19 @@ module _ (m : Image) (lawful : IsLawfulTree m.tree) where
       get_or-take k (node_names [] m.tree) f (root_of m) lower in
       let same_number : ino_of (at f).node ≡ number =
       ap (λ (n : Name). ino_of n.node) (sym here_is) ∙ place_is.number_is in
-      let same : (at f).node ≡ (at k).node = m.coherent (at f).node (at k).node (in_tree f inside) (in_tree k h) same_number in
+      let same : (at f).node ≡ (at k).node = m.coherent (at f).node (at k).node (in_tree f inside)
+      (in_tree k h) same_number in
       let none : place_of (ino_of (at f).node) (before f) ≡ None =
       ap (λ (n : ℕ). place_of n (before f)) same_number
-      ∙ ap (λ (ns : List Name). place_of number (root_of m ∷ ns)) (sym (take-take f k (node_names [] m.tree) (omega (arith, lower))))
+      ∙ ap (λ (ns : List Name). place_of number (root_of m ∷ ns))
+      (sym (take-take f k (node_names [] m.tree) (omega (arith, lower))))
       ∙ place_is.none_before in
       let first : first_behind (before f) (at f).node ≡ None =
       ap (λ (b : Bool). cond b None (place_of (ino_of (at f).node) (before f))) (ap is_directory same ∙ it.no_directory)
       ∙ none in (
         omega (arith, inside, many),
-        kind_is f inside ∙ ap (λ kind. made_of kind (first_behind (before f) (at f).node)) (ap kind_of same ∙ it.regular_is)
+        kind_is f inside ∙ ap (λ kind. made_of kind (first_behind (before f) (at f).node))
+            (ap kind_of same ∙ it.regular_is)
             ∙ ap file_by first,
       )
 
