@@ -217,8 +217,7 @@ module _ (o : Order) (b : List ℕ) where
       let own_rows : List Row = rows g (g.own x) p directory (depth + 1) own in
       let after_rows : List Row = rows g (g.after x) directory parent depth after in
       let P = λ (y : Row). y.offset ≡ n in
-      elim (some_number n (numbers_of (node_of o b p (entries_at o b own))) (entries_numbers (entries_at o b after)) i)
-          [
+      elim (some_number n (numbers_of (node_of o b p (entries_at o b own))) (entries_numbers (entries_at o b after)) i) [
         | inl k ↦ elim (first_or p n (entries_numbers (entries_at o b own)) (child_has p own n k)) [
           | inl e ↦ inl e
           | inr e ↦ inr (has_left P own_rows after_rows (numbers_in (g.own x) p directory (depth + 1) own n e))

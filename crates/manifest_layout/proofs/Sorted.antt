@@ -76,8 +76,7 @@ named_files (a_directory i) name n = ([], files n, refl, refl)
 put_files : (w : What) (name : List ℕ) (n : Names) → MoreFiles w (files n) (files (put w name n))
 put_files w name nothing = named_files w name nothing
 put_files w name (leaf m i after) = elim (is_before name m) as
-    (λ t. MoreFiles w (i ∷ files after) (files (cond t (named w name (leaf m i after)) (leaf m i (put w name after)))))
-        [
+    (λ t. MoreFiles w (i ∷ files after) (files (cond t (named w name (leaf m i after)) (leaf m i (put w name after))))) [
       | true ↦ named_files w name (leaf m i after)
       | false ↦ more_behind w (i ∷ []) (files after) (files (put w name after)) (put_files w name after)
     ]
@@ -132,14 +131,12 @@ module _ (P : List ℕ → What → Type 0) where
   put_hold : (w : What) (name : List ℕ) (n : Names) → P name w → HoldAll P n → HoldAll P (put w name n)
   put_hold w name nothing p h = named_hold w name nothing p h
   put_hold w name (leaf m i after) p h =
-      elim (is_before name m) as (λ t. HoldAll P (cond t (named w name (leaf m i after)) (leaf m i (put w name after))))
-          [
+      elim (is_before name m) as (λ t. HoldAll P (cond t (named w name (leaf m i after)) (leaf m i (put w name after)))) [
         | true ↦ named_hold w name (leaf m i after) p h
         | false ↦ (h.0, put_hold w name after p h.1)
       ]
   put_hold w name (link m i after) p h =
-      elim (is_before name m) as (λ t. HoldAll P (cond t (named w name (link m i after)) (link m i (put w name after))))
-          [
+      elim (is_before name m) as (λ t. HoldAll P (cond t (named w name (link m i after)) (link m i (put w name after)))) [
         | true ↦ named_hold w name (link m i after) p h
         | false ↦ (h.0, put_hold w name after p h.1)
       ]

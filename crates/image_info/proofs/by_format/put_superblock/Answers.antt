@@ -9,6 +9,5 @@ use Rattle.image_info.proofs.by_format.put_superblock.Goals as goal
 pub returns : goal.returns
 returns g c =
     chain
-    (by_value (plain_line (codes "format ")) (c.as_bytes.ensures.value ∙ c.name.ensures
-        ∙ ap name_of c.format.ensures.is) c.put_plain.ensures)
+    (by_value (plain_line (codes "format ")) (c.as_bytes.ensures.value ∙ c.name.ensures ∙ ap name_of c.format.ensures.is) c.put_plain.ensures)
     c.put_fields.ensures
