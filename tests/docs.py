@@ -244,8 +244,9 @@ def parts(counts):
 
 def phases_with(number):
     """Returns how many phases of the table in FAULTS.md have a fault."""
-    rows = re.findall(r"^\| \d+ \|.*\| (\d+)(?: to (\d+))? \|$", text_of("docs/FAULTS.md"), re.M)
-    return sum(int(first) <= number <= int(last or first) for first, last in rows)
+    cells = re.findall(r"^\| \d+ \|.*\| (\d[\d, a-z]*) \|$", text_of("docs/FAULTS.md"), re.M)
+    ranges = [re.findall(r"(\d+)(?: to (\d+))?", cell) for cell in cells]
+    return sum(int(first) <= number <= int(last or first) for of_phase in ranges for first, last in of_phase)
 
 
 def faults_of_cases(format):
