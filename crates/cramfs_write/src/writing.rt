@@ -1,17 +1,13 @@
 //! The writing of an image into a buffer, or to a writer.
-ghost use Rattle.std.specs.Prelude.{◌≡◌, ◌%◌, ◌≤◌, ℕ, List, map, length, OnOk, OnErr, IfErr};
+ghost use Rattle.std.specs.Prelude.{◌≡◌, ◌%◌, ◌≤◌, ℕ, List, map, length, OnOk, IfErr};
 ghost use Rattle.cramfs_format.specs.declared.order.Order.{Order};
-ghost use Rattle.crc.specs.Crc.{crc_of};
-ghost use Rattle.image_stream.specs.Outcomes.{AreSized, IsLeastWrong, IsStreamFault, IsStreamed};
-ghost use Rattle.image_stream.specs.Sources.{IfKnown};
+ghost use Rattle.image_stream.specs.Outcomes.{IsLeastWrong, state};
 ghost use Rattle.manifest.specs.Grammar.{IsManifest};
 ghost use Rattle.manifest.specs.Lines.{ManifestLines};
 ghost use Rattle.formats.specs.Format.{cramfs};
 ghost use Rattle.manifest_layout.specs.Format.{layout_of};
 ghost use Rattle.plan_types.specs.Plans.{IsPlanOf};
-ghost use Rattle.rom_fields.specs.Written.{AppendsPrefix};
-ghost use Rattle.std.specs.Io.KnownBytes.{Appends};
-ghost use Rattle.cramfs_write.specs.Form.{form_of};
+ghost use Rattle.cramfs_write.specs.Streams.{StreamsPlan};
 
 use crate::form::{CramfsForm, facts, order_of};
 use image_stream::{Crc32, SizeDiffers, Sources, StreamError};
@@ -64,26 +60,10 @@ pub fn stream_through<S: Sources, W: ByteWrite>(
     requires files { S.files sources.old ≡ length plan.now.sizes }
     requires room { 4096 ≤ length buffer.old }
     requires words { length buffer.old % 4 ≡ 0 }
-    ensures known { S.known sources.new ≡ S.known sources.old }
-    ensures files { S.files sources.new ≡ S.files sources.old }
-    ensures some { (o : Order) → plan.now.format ≡ cramfs o
-        → OnOk result (IsStreamed (S.known sources.old) (S.IsLog sources.old)
-        (S.IsLog sources.new) (form_of o plan.now) crc_of
-        (W.output w.old).contents (W.output w.new).contents) }
-    ensures sized { OnOk result (IfKnown (S.known sources.old) (AreSized plan.now.sizes)) }
-    ensures whole { (o : Order) (m : ManifestLines) (sizes : List ℕ) → IsManifest m
-        → IsPlanOf (cramfs o) m sizes plan.now
-        → OnOk result (IfKnown (S.known sources.old) (λ cs. (map length cs ≡ sizes) × Appends
-        (W.output w.old).contents (W.output w.new).contents (layout_of (cramfs o) m cs))) }
-    ensures quiet { OnOk result ((S.reads sources.new ≡ S.reads sources.old)
-        × ((W.output w.new).failures ≡ (W.output w.old).failures)) }
-    ensures front { (o : Order) (m : ManifestLines) (sizes : List ℕ) → IsManifest m
-        → IsPlanOf (cramfs o) m sizes plan.now
-        → OnErr result (IfKnown (S.known sources.old) (λ cs. map length cs ≡ sizes → AppendsPrefix
-        (W.output w.old).contents (W.output w.new).contents (layout_of (cramfs o) m cs))) }
-    ensures fault { (o : Order) → plan.now.format ≡ cramfs o
-        → IfErr result (IsStreamFault (S.known sources.old) (form_of o plan.now) crc_of
-        (S.reads sources.old) (S.reads sources.new) (W.output w.old) (W.output w.new)) }
+    ensures { StreamsPlan plan.now
+        (state (S.known sources.old) (S.files sources.old) (S.reads sources.old))
+        (state (S.known sources.new) (S.files sources.new) (S.reads sources.new))
+        (S.IsLog sources.old) (S.IsLog sources.new) (W.output w.old) (W.output w.new) result }
 {
     let order = order_of(plan);
     facts(order, plan);
@@ -101,26 +81,10 @@ pub fn stream<S: Sources, W: ByteWrite>(
 ) -> Result<(), StreamError>
     requires format { (o : Order) × (plan.now.format ≡ cramfs o) }
     requires files { S.files sources.old ≡ length plan.now.sizes }
-    ensures known { S.known sources.new ≡ S.known sources.old }
-    ensures files { S.files sources.new ≡ S.files sources.old }
-    ensures some { (o : Order) → plan.now.format ≡ cramfs o
-        → OnOk result (IsStreamed (S.known sources.old) (S.IsLog sources.old)
-        (S.IsLog sources.new) (form_of o plan.now) crc_of
-        (W.output w.old).contents (W.output w.new).contents) }
-    ensures sized { OnOk result (IfKnown (S.known sources.old) (AreSized plan.now.sizes)) }
-    ensures whole { (o : Order) (m : ManifestLines) (sizes : List ℕ) → IsManifest m
-        → IsPlanOf (cramfs o) m sizes plan.now
-        → OnOk result (IfKnown (S.known sources.old) (λ cs. (map length cs ≡ sizes) × Appends
-        (W.output w.old).contents (W.output w.new).contents (layout_of (cramfs o) m cs))) }
-    ensures quiet { OnOk result ((S.reads sources.new ≡ S.reads sources.old)
-        × ((W.output w.new).failures ≡ (W.output w.old).failures)) }
-    ensures front { (o : Order) (m : ManifestLines) (sizes : List ℕ) → IsManifest m
-        → IsPlanOf (cramfs o) m sizes plan.now
-        → OnErr result (IfKnown (S.known sources.old) (λ cs. map length cs ≡ sizes → AppendsPrefix
-        (W.output w.old).contents (W.output w.new).contents (layout_of (cramfs o) m cs))) }
-    ensures fault { (o : Order) → plan.now.format ≡ cramfs o
-        → IfErr result (IsStreamFault (S.known sources.old) (form_of o plan.now) crc_of
-        (S.reads sources.old) (S.reads sources.new) (W.output w.old) (W.output w.new)) }
+    ensures { StreamsPlan plan.now
+        (state (S.known sources.old) (S.files sources.old) (S.reads sources.old))
+        (state (S.known sources.new) (S.files sources.new) (S.reads sources.new))
+        (S.IsLog sources.old) (S.IsLog sources.new) (W.output w.old) (W.output w.new) result }
 {
     let mut space: [u8; 4096] = [0; 4096];
     stream_through(plan, sources, w, space.as_mut_slice())

@@ -1,4 +1,5 @@
 pub mod Builds
 pub mod Accepted
 pub mod Streamed
+pub mod Streams
 pub mod Each

@@ -1,19 +1,15 @@
 //! The builds, in memory and to a writer.
-ghost use Rattle.std.specs.Prelude.{◌≡◌, ◌%◌, ◌≤◌, ℕ, List, map, length, IfOk, IfErr, Ok, Err};
-ghost use Rattle.std.specs.Prelude.{OnOk, OnErr};
-ghost use Rattle.std.specs.Io.KnownBytes.{Appends};
+ghost use Rattle.std.specs.Prelude.{◌≡◌, ◌%◌, ◌≤◌, map, length, IfOk, IfErr, Ok, Err};
 ghost use Rattle.cramfs_format.specs.declared.order.Order.{Order};
 ghost use Rattle.cramfs_format.specs.declared.order.Order.TheVariants.{Little, Big};
 ghost use Rattle.formats.specs.Format.{romfs, cramfs, format_of};
 ghost use Rattle.image_build.specs.Builds.{Builds};
-ghost use Rattle.image_build.specs.Streamed.{IsPlanOfText, form_in, stored_in};
-ghost use Rattle.image_stream.specs.Outcomes.{AreSized, IsStreamFault, IsStreamed};
-ghost use Rattle.image_stream.specs.Sources.{IfKnown};
+ghost use Rattle.image_build.specs.Streams.{StreamsPlan};
+ghost use Rattle.image_stream.specs.Outcomes.{state};
 ghost use Rattle.manifest.specs.Grammar.{IsManifest};
 ghost use Rattle.manifest.specs.Lines.{ManifestLines};
 ghost use Rattle.manifest_layout.specs.Format.{layout_of};
 ghost use Rattle.plan_types.specs.Plans.{IsPlanOf};
-ghost use Rattle.rom_fields.specs.Written.{AppendsPrefix};
 
 use crate::error::BuildError;
 use image_stream::{Sources, StreamError};
@@ -189,26 +185,10 @@ pub fn stream_through<S: Sources, W: ByteWrite>(
     requires files { S.files sources.old ≡ length plan.now.sizes }
     requires room { 4096 ≤ length buffer.old }
     requires words { length buffer.old % 4 ≡ 0 }
-    ensures known { S.known sources.new ≡ S.known sources.old }
-    ensures files { S.files sources.new ≡ S.files sources.old }
-    ensures some { OnOk result (IsStreamed (S.known sources.old) (S.IsLog sources.old)
-        (S.IsLog sources.new)
-        (form_in plan.now.format plan.now) (stored_in plan.now.format)
-        (W.output w.old).contents (W.output w.new).contents) }
-    ensures sized { OnOk result (IfKnown (S.known sources.old) (AreSized plan.now.sizes)) }
-    ensures whole { (text : List ℕ) → IsPlanOfText text plan.now
-        → OnOk result (IfKnown (S.known sources.old) (λ cs. (bytes : List ℕ)
-        × Builds plan.now.format text cs (Ok bytes)
-        × Appends (W.output w.old).contents (W.output w.new).contents bytes)) }
-    ensures quiet { OnOk result ((S.reads sources.new ≡ S.reads sources.old)
-        × ((W.output w.new).failures ≡ (W.output w.old).failures)) }
-    ensures front { (text : List ℕ) → IsPlanOfText text plan.now
-        → OnErr result (IfKnown (S.known sources.old) (λ cs. map length cs ≡ plan.now.sizes
-        → (bytes : List ℕ) × Builds plan.now.format text cs (Ok bytes)
-        × AppendsPrefix (W.output w.old).contents (W.output w.new).contents bytes)) }
-    ensures fault { IfErr result (IsStreamFault (S.known sources.old)
-        (form_in plan.now.format plan.now) (stored_in plan.now.format) (S.reads sources.old)
-        (S.reads sources.new) (W.output w.old) (W.output w.new)) }
+    ensures { StreamsPlan plan.now
+        (state (S.known sources.old) (S.files sources.old) (S.reads sources.old))
+        (state (S.known sources.new) (S.files sources.new) (S.reads sources.new))
+        (S.IsLog sources.old) (S.IsLog sources.new) (W.output w.old) (W.output w.new) result }
 {
     manifest_layout::laws::layout_is_meant();
     match plan.format() {
@@ -226,26 +206,10 @@ pub fn stream<S: Sources, W: ByteWrite>(
     w: &mut W,
 ) -> Result<(), StreamError>
     requires { S.files sources.old ≡ length plan.now.sizes }
-    ensures known { S.known sources.new ≡ S.known sources.old }
-    ensures files { S.files sources.new ≡ S.files sources.old }
-    ensures some { OnOk result (IsStreamed (S.known sources.old) (S.IsLog sources.old)
-        (S.IsLog sources.new)
-        (form_in plan.now.format plan.now) (stored_in plan.now.format)
-        (W.output w.old).contents (W.output w.new).contents) }
-    ensures sized { OnOk result (IfKnown (S.known sources.old) (AreSized plan.now.sizes)) }
-    ensures whole { (text : List ℕ) → IsPlanOfText text plan.now
-        → OnOk result (IfKnown (S.known sources.old) (λ cs. (bytes : List ℕ)
-        × Builds plan.now.format text cs (Ok bytes)
-        × Appends (W.output w.old).contents (W.output w.new).contents bytes)) }
-    ensures quiet { OnOk result ((S.reads sources.new ≡ S.reads sources.old)
-        × ((W.output w.new).failures ≡ (W.output w.old).failures)) }
-    ensures front { (text : List ℕ) → IsPlanOfText text plan.now
-        → OnErr result (IfKnown (S.known sources.old) (λ cs. map length cs ≡ plan.now.sizes
-        → (bytes : List ℕ) × Builds plan.now.format text cs (Ok bytes)
-        × AppendsPrefix (W.output w.old).contents (W.output w.new).contents bytes)) }
-    ensures fault { IfErr result (IsStreamFault (S.known sources.old)
-        (form_in plan.now.format plan.now) (stored_in plan.now.format) (S.reads sources.old)
-        (S.reads sources.new) (W.output w.old) (W.output w.new)) }
+    ensures { StreamsPlan plan.now
+        (state (S.known sources.old) (S.files sources.old) (S.reads sources.old))
+        (state (S.known sources.new) (S.files sources.new) (S.reads sources.new))
+        (S.IsLog sources.old) (S.IsLog sources.new) (W.output w.old) (W.output w.new) result }
 {
     let mut space: [u8; 4096] = [0; 4096];
     stream_through(plan, sources, w, space.as_mut_slice())

@@ -4,3 +4,4 @@ pub mod Answers
 pub mod Outcomes
 pub mod Steps
 pub mod WordSums
+pub mod Checksums

@@ -1,14 +1,16 @@
--- `IsWritten`, `IsStreamed`: a whole image was written. `IsStreamFault`: the meaning of each error
--- of a stream. `IsLeastWrong`: the first file of another size than planned. (This project's own.)
-use Rattle.std.specs.Prelude.{◌≡◌, ◌≢◌, ℕ, ◌<◌, List, ◌++◌, length, get_or, Option}
+-- `Streams`: what a stream of an image promises. `IsWritten`, `IsStreamed`: a whole image was
+-- written. `IsStreamFault`: the meaning of each error of a stream. `IsLeastWrong`: the first file
+-- of another size than planned. (This project's own.)
+use Rattle.std.specs.Prelude.{◌≡◌, ◌≢◌, ℕ, ◌<◌, List, ◌++◌, length, get_or, Option, Result, OnOk}
+use Rattle.std.specs.Prelude.{OnErr, IfErr}
 use Rattle.std.specs.Io.KnownBytes.{Appends}
 use Rattle.rom_fields.specs.Failures.{Rose}
-use Rattle.rom_fields.specs.Written.{Output}
+use Rattle.rom_fields.specs.Written.{Output, AppendsPrefix}
 use Rattle.image_stream.specs.declared.error.StreamError.{StreamError}
 use Rattle.image_stream.specs.declared.error.StreamError.TheVariants.{SizeDiffers, SourceFault}
 use Rattle.image_stream.specs.declared.error.StreamError.TheVariants.{WriteFault, Changed}
 use Rattle.image_stream.specs.Sources.{content_of, IfKnown, Reads, FailedAt}
-use Rattle.image_stream.specs.Segments.{Form, IsImage, checked}
+use Rattle.image_stream.specs.Segments.{Form, IsImage, checked, image_of}
 use Rattle.image_stream.specs.Answers.{Answer, LogsLast, IsImageRead}
 
 -- the contents of the first n files have the planned sizes
@@ -68,3 +70,32 @@ IsStreamFault known f stored r r' w w' (SourceFault file) =
 IsStreamFault known f stored r r' w w' WriteFault = Rose w.failures w'.failures
 IsStreamFault known f stored r r' w w' Changed =
     IsMisstored known f stored w.contents w'.contents × IfKnown known (λ cs. ⊥)
+
+-- the contents of sources (if these are known), their number, and the counts of failed reads
+pub record SourcesState : Type 0 where
+  pub known : Option (List (List ℕ))
+  pub files : ℕ
+  pub reads : Reads
+
+abbrev pub state : Option (List (List ℕ)) → ℕ → Reads → SourcesState
+state known files reads = record { known = known; files = files; reads = reads }
+
+-- What a stream of an image promises, by the sources and the log before it and after it, by the
+-- writer's bytes and failures before it and after it, and by its result. The sources stay the same.
+-- At `Ok`, a whole image was written (`some`), the contents have the planned sizes (`sized`), the
+-- image is that of these contents (`whole`), and no read or write failed (`quiet`). After an error,
+-- a prefix of it was written (`front`), and `fault` has the error's meaning. What is said of the
+-- contents holds if they are known.
+pub record Streams {A : Type 0} (f : Form) (stored : List ℕ → ℕ) (s s' : SourcesState)
+    (was is : List Answer → Type 0) (w w' : Output)
+    (result : Result A StreamError) : Type 0 where
+  pub known : s'.known ≡ s.known
+  pub files : s'.files ≡ s.files
+  pub some : OnOk result (IsStreamed s.known was is f stored w.contents w'.contents)
+  pub sized : OnOk result (IfKnown s.known (AreSized f.sizes))
+  pub whole : OnOk result (IfKnown s.known
+      (λ cs. Appends w.contents w'.contents (image_of f stored cs)))
+  pub quiet : OnOk result ((s'.reads ≡ s.reads) × (w'.failures ≡ w.failures))
+  pub front : OnErr result (IfKnown s.known
+      (λ cs. AppendsPrefix w.contents w'.contents (image_of f stored cs)))
+  pub fault : IfErr result (IsStreamFault s.known f stored s.reads s'.reads w w')

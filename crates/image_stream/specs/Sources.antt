@@ -1,8 +1,10 @@
 -- `IfKnown`: the contents of sources have a property, if they are known. `ReadsAt`: the result of a
--- read. `Reads`, `FailedAt`: the counts of failed reads. (This project's own.)
+-- read. `Reads`, `FailedAt`: the counts of failed reads. `contents_in`: the contents of sources in
+-- memory. (This project's own.)
 use Rattle.std.specs.Prelude.{◌≡◌, ℕ, ◌<◌, ◌≤◌, List, [], take, drop, length, get_or, Option, Some}
 use Rattle.std.specs.Prelude.{None, Result, Ok, Err, MatchResult, ⊤}
 use Rattle.rom_fields.specs.Failures.{one_more, Rose}
+use Rattle.image_stream.specs.declared.slices.Slices.{Slices}
 
 -- the contents of a file
 abbrev pub content_of : List (List ℕ) → ℕ → List ℕ
@@ -36,3 +38,7 @@ after_read_of file r (Err e) = record { failures = one_more r.failures; failed =
 pub record FailedAt (file : ℕ) (old new : Reads) : Type 0 where
   pub rose : Rose old.failures new.failures
   pub last : new.failed ≡ Some file
+
+-- the contents of sources in memory
+abbrev pub contents_in : Slices → List (List ℕ)
+contents_in s = s.contents.now

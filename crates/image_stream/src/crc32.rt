@@ -1,6 +1,6 @@
 //! The CRC-32 that cramfs stores as its checksum.
-ghost use Rattle.std.specs.Prelude.{◌≡◌};
 ghost use Rattle.crc.specs.Crc.{crc_of};
+ghost use Rattle.image_stream.specs.Checksums.{IsCrcOf};
 
 use crate::checksum::Checksum;
 use crc::crc32_more;
@@ -12,7 +12,7 @@ pub struct Crc32 {
 }
 
 impl Checksum for Crc32 {
-    ghost Is = { λ s xs. s.value ≡ crc_of xs };
+    ghost Is = { IsCrcOf };
 
     ghost stored = { crc_of };
 

@@ -1,7 +1,7 @@
 //! Sources that are in memory.
 ghost use Rattle.std.specs.Prelude.{◌≡◌, Some, length};
 ghost use Rattle.image_stream.specs.Answers.{AreOf};
-ghost use Rattle.image_stream.specs.Sources.{no_failures};
+ghost use Rattle.image_stream.specs.Sources.{contents_in, no_failures};
 
 use crate::sources::{SourceFailed, Sources};
 use rom_fields::Contents;
@@ -15,20 +15,20 @@ pub struct Slices<'c> {
 impl<'c> Slices<'c> {
     /// Returns sources with these contents.
     pub fn new(contents: &'c Contents<'c>) -> Slices<'c>
-        ensures { result.contents.now ≡ contents.now }
+        ensures { contents_in result ≡ contents.now }
     {
         Slices { contents }
     }
 }
 
 impl<'c> Sources for Slices<'c> {
-    ghost known = { λ s. Some s.contents.now };
+    ghost known = { λ s. Some (contents_in s) };
 
-    ghost files = { λ s. length s.contents.now };
+    ghost files = { λ s. length (contents_in s) };
 
     ghost reads = { λ _. no_failures };
 
-    ghost IsLog = { λ s log. AreOf s.contents.now log };
+    ghost IsLog = { λ s log. AreOf (contents_in s) log };
 
     fn count(&self) -> usize {
         self.contents.len()

@@ -1,13 +1,11 @@
 //! An image in three passes through one buffer.
-ghost use Rattle.std.specs.Prelude.{◌≡◌, ◌≢◌, ◌+◌, ◌%◌, ◌<◌, ◌≤◌, ◌^◌, ◌++◌, ℕ, List, length};
-ghost use Rattle.std.specs.Prelude.{get_or, OnOk, OnErr, IfErr};
-ghost use Rattle.std.specs.Io.KnownBytes.{Appends};
+ghost use Rattle.std.specs.Prelude.{◌≡◌, ◌≢◌, ◌+◌, ◌%◌, ◌<◌, ◌≤◌, ◌++◌, ℕ, List, length};
+ghost use Rattle.std.specs.Prelude.{OnOk, IfErr};
 ghost use Rattle.rom_fields.specs.Failures.{Counts};
-ghost use Rattle.rom_fields.specs.Written.{WritesText, AppendsPrefix};
-ghost use Rattle.image_stream.specs.Sources.{IfKnown};
+ghost use Rattle.rom_fields.specs.Written.{WritesText};
 ghost use Rattle.image_stream.specs.declared.error.StreamError.TheVariants.{Changed};
-ghost use Rattle.image_stream.specs.Segments.{IsLaidOut, image_of};
-ghost use Rattle.image_stream.specs.Outcomes.{AreSized, IsStreamFault, IsStreamed};
+ghost use Rattle.image_stream.specs.Segments.{IsLaidOut};
+ghost use Rattle.image_stream.specs.Outcomes.{Streams, state};
 
 use crate::checksum::Checksum;
 use crate::error::StreamError;
@@ -83,23 +81,10 @@ pub fn stream_through<L: Segmented, S: Sources, W: ByteWrite, C: Checksum>(
     requires files { S.files sources.old ≡ length (L.form layout.now).sizes }
     requires room { 4096 ≤ length buffer.old }
     requires words { length buffer.old % 4 ≡ 0 }
-    ensures known { S.known sources.new ≡ S.known sources.old }
-    ensures files { S.files sources.new ≡ S.files sources.old }
-    ensures some { OnOk result (IsStreamed (S.known sources.old) (S.IsLog sources.old)
-        (S.IsLog sources.new) (L.form layout.now) C.stored
-        (W.output w.old).contents (W.output w.new).contents) }
-    ensures sized { OnOk result (IfKnown (S.known sources.old)
-        (AreSized (L.form layout.now).sizes)) }
-    ensures whole { OnOk result (IfKnown (S.known sources.old) (λ cs. Appends
-        (W.output w.old).contents (W.output w.new).contents
-        (image_of (L.form layout.now) C.stored cs))) }
-    ensures quiet { OnOk result ((S.reads sources.new ≡ S.reads sources.old)
-        × ((W.output w.new).failures ≡ (W.output w.old).failures)) }
-    ensures front { OnErr result (IfKnown (S.known sources.old) (λ cs. AppendsPrefix
-        (W.output w.old).contents (W.output w.new).contents
-        (image_of (L.form layout.now) C.stored cs))) }
-    ensures fault { IfErr result (IsStreamFault (S.known sources.old) (L.form layout.now) C.stored
-        (S.reads sources.old) (S.reads sources.new) (W.output w.old) (W.output w.new)) }
+    ensures { Streams (L.form layout.now) C.stored
+        (state (S.known sources.old) (S.files sources.old) (S.reads sources.old))
+        (state (S.known sources.new) (S.files sources.new) (S.reads sources.new))
+        (S.IsLog sources.old) (S.IsLog sources.new) (W.output w.old) (W.output w.new) result }
 {
     match measure_all(layout, sources, buffer) {
         Ok(()) => {}
@@ -144,23 +129,10 @@ pub fn stream<L: Segmented, S: Sources, W: ByteWrite, C: Checksum>(
 ) -> Result<(), StreamError>
     requires laid { IsLaidOut (L.form layout.now) }
     requires files { S.files sources.old ≡ length (L.form layout.now).sizes }
-    ensures known { S.known sources.new ≡ S.known sources.old }
-    ensures files { S.files sources.new ≡ S.files sources.old }
-    ensures some { OnOk result (IsStreamed (S.known sources.old) (S.IsLog sources.old)
-        (S.IsLog sources.new) (L.form layout.now) C.stored
-        (W.output w.old).contents (W.output w.new).contents) }
-    ensures sized { OnOk result (IfKnown (S.known sources.old)
-        (AreSized (L.form layout.now).sizes)) }
-    ensures whole { OnOk result (IfKnown (S.known sources.old) (λ cs. Appends
-        (W.output w.old).contents (W.output w.new).contents
-        (image_of (L.form layout.now) C.stored cs))) }
-    ensures quiet { OnOk result ((S.reads sources.new ≡ S.reads sources.old)
-        × ((W.output w.new).failures ≡ (W.output w.old).failures)) }
-    ensures front { OnErr result (IfKnown (S.known sources.old) (λ cs. AppendsPrefix
-        (W.output w.old).contents (W.output w.new).contents
-        (image_of (L.form layout.now) C.stored cs))) }
-    ensures fault { IfErr result (IsStreamFault (S.known sources.old) (L.form layout.now) C.stored
-        (S.reads sources.old) (S.reads sources.new) (W.output w.old) (W.output w.new)) }
+    ensures { Streams (L.form layout.now) C.stored
+        (state (S.known sources.old) (S.files sources.old) (S.reads sources.old))
+        (state (S.known sources.new) (S.files sources.new) (S.reads sources.new))
+        (S.IsLog sources.old) (S.IsLog sources.new) (W.output w.old) (W.output w.new) result }
 {
     let mut space: [u8; 4096] = [0; 4096];
     stream_through::<L, S, W, C>(layout, sources, w, space.as_mut_slice())

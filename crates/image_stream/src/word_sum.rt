@@ -2,7 +2,8 @@
 ghost use Rattle.std.specs.Prelude.{◌≡◌, ◌∷◌, [], ◌++◌, ◌+◌, ◌*◌, ◌%◌, ◌^◌, ◌<◌, ◌≤◌, ℕ, List};
 ghost use Rattle.std.specs.Prelude.{length, true};
 ghost use Rattle.std.specs.Bool.{OnTrue};
-ghost use Rattle.image_stream.specs.WordSums.{IsSum, balance_of, weight};
+ghost use Rattle.image_stream.specs.Checksums.{IsSumOf};
+ghost use Rattle.image_stream.specs.WordSums.{balance_of, weight};
 
 use crate::checksum::Checksum;
 
@@ -30,8 +31,7 @@ fn weight_at(place: u32) -> u32
 
 /// Returns the sum after one more byte.
 fn with_byte(s: WordSum, x: u8) -> WordSum
-    ensures { (xs : List ℕ) → IsSum s.place s.sum xs
-        → IsSum result.place result.sum (xs ++ x ∷ []) }
+    ensures { (xs : List ℕ) → IsSumOf s xs → IsSumOf result (xs ++ x ∷ []) }
 {
     if s.place < 512 {
         let part = u32::from(x).wrapping_mul(weight_at(s.place));
@@ -46,8 +46,7 @@ fn with_byte(s: WordSum, x: u8) -> WordSum
 
 /// Returns the sum after more bytes.
 fn with_bytes(s: WordSum, bytes: &[u8]) -> WordSum
-    ensures { (xs : List ℕ) → IsSum s.place s.sum xs
-        → IsSum result.place result.sum (xs ++ bytes.now) }
+    ensures { (xs : List ℕ) → IsSumOf s xs → IsSumOf result (xs ++ bytes.now) }
 {
     let mut sum = s;
     'bytes: for x in bytes {
@@ -57,7 +56,7 @@ fn with_bytes(s: WordSum, bytes: &[u8]) -> WordSum
 }
 
 impl Checksum for WordSum {
-    ghost Is = { λ s xs. IsSum s.place s.sum xs };
+    ghost Is = { IsSumOf };
 
     ghost stored = { balance_of };
 
@@ -74,10 +73,10 @@ impl Checksum for WordSum {
     }
 
     fn is_full(&self) -> bool
-        ensures full { OnTrue result ((xs ys : List ℕ) → IsSum self.now.place self.now.sum xs
-            → IsSum self.now.place self.now.sum (xs ++ ys)) }
-        ensures after_512_bytes { (xs : List ℕ) → IsSum self.now.place self.now.sum xs
-            → 512 ≤ length xs → result ≡ true }
+        ensures full { OnTrue result
+            ((xs ys : List ℕ) → IsSumOf self.now xs → IsSumOf self.now (xs ++ ys)) }
+        ensures after_512_bytes { (xs : List ℕ) → IsSumOf self.now xs → 512 ≤ length xs
+            → result ≡ true }
     {
         self.place >= 512
     }

@@ -1,16 +1,12 @@
 //! The writing of an image into a buffer, or to a writer.
-ghost use Rattle.std.specs.Prelude.{◌≡◌, ◌%◌, ◌≤◌, ℕ, List, map, length, OnOk, OnErr, IfErr};
-ghost use Rattle.image_stream.specs.Outcomes.{AreSized, IsLeastWrong, IsStreamFault, IsStreamed};
-ghost use Rattle.image_stream.specs.Sources.{IfKnown};
-ghost use Rattle.image_stream.specs.WordSums.{balance_of};
+ghost use Rattle.std.specs.Prelude.{◌≡◌, ◌%◌, ◌≤◌, ℕ, List, map, length, OnOk, IfErr};
+ghost use Rattle.image_stream.specs.Outcomes.{IsLeastWrong, state};
 ghost use Rattle.manifest.specs.Grammar.{IsManifest};
 ghost use Rattle.manifest.specs.Lines.{ManifestLines};
 ghost use Rattle.formats.specs.Format.{romfs};
 ghost use Rattle.manifest_layout.specs.Format.{layout_of};
 ghost use Rattle.plan_types.specs.Plans.{IsPlanOf};
-ghost use Rattle.rom_fields.specs.Written.{AppendsPrefix};
-ghost use Rattle.std.specs.Io.KnownBytes.{Appends};
-ghost use Rattle.romfs_write.specs.Form.{form_of};
+ghost use Rattle.romfs_write.specs.Streams.{StreamsPlan};
 
 use crate::form::{RomfsForm, facts};
 use image_stream::{SizeDiffers, Sources, StreamError, WordSum};
@@ -62,24 +58,10 @@ pub fn stream_through<S: Sources, W: ByteWrite>(
     requires files { S.files sources.old ≡ length plan.now.sizes }
     requires room { 4096 ≤ length buffer.old }
     requires words { length buffer.old % 4 ≡ 0 }
-    ensures known { S.known sources.new ≡ S.known sources.old }
-    ensures files { S.files sources.new ≡ S.files sources.old }
-    ensures some { OnOk result (IsStreamed (S.known sources.old) (S.IsLog sources.old)
-        (S.IsLog sources.new) (form_of plan.now) balance_of
-        (W.output w.old).contents (W.output w.new).contents) }
-    ensures sized { OnOk result (IfKnown (S.known sources.old) (AreSized plan.now.sizes)) }
-    ensures whole { (m : ManifestLines) (sizes : List ℕ) → IsManifest m
-        → IsPlanOf romfs m sizes plan.now
-        → OnOk result (IfKnown (S.known sources.old) (λ cs. (map length cs ≡ sizes) × Appends
-        (W.output w.old).contents (W.output w.new).contents (layout_of romfs m cs))) }
-    ensures quiet { OnOk result ((S.reads sources.new ≡ S.reads sources.old)
-        × ((W.output w.new).failures ≡ (W.output w.old).failures)) }
-    ensures front { (m : ManifestLines) (sizes : List ℕ) → IsManifest m
-        → IsPlanOf romfs m sizes plan.now
-        → OnErr result (IfKnown (S.known sources.old) (λ cs. map length cs ≡ sizes → AppendsPrefix
-        (W.output w.old).contents (W.output w.new).contents (layout_of romfs m cs))) }
-    ensures fault { IfErr result (IsStreamFault (S.known sources.old) (form_of plan.now) balance_of
-        (S.reads sources.old) (S.reads sources.new) (W.output w.old) (W.output w.new)) }
+    ensures { StreamsPlan plan.now
+        (state (S.known sources.old) (S.files sources.old) (S.reads sources.old))
+        (state (S.known sources.new) (S.files sources.new) (S.reads sources.new))
+        (S.IsLog sources.old) (S.IsLog sources.new) (W.output w.old) (W.output w.new) result }
 {
     facts(plan);
     manifest_layout::laws::fitting_is_planned();
@@ -96,24 +78,10 @@ pub fn stream<S: Sources, W: ByteWrite>(
 ) -> Result<(), StreamError>
     requires format { plan.now.format ≡ romfs }
     requires files { S.files sources.old ≡ length plan.now.sizes }
-    ensures known { S.known sources.new ≡ S.known sources.old }
-    ensures files { S.files sources.new ≡ S.files sources.old }
-    ensures some { OnOk result (IsStreamed (S.known sources.old) (S.IsLog sources.old)
-        (S.IsLog sources.new) (form_of plan.now) balance_of
-        (W.output w.old).contents (W.output w.new).contents) }
-    ensures sized { OnOk result (IfKnown (S.known sources.old) (AreSized plan.now.sizes)) }
-    ensures whole { (m : ManifestLines) (sizes : List ℕ) → IsManifest m
-        → IsPlanOf romfs m sizes plan.now
-        → OnOk result (IfKnown (S.known sources.old) (λ cs. (map length cs ≡ sizes) × Appends
-        (W.output w.old).contents (W.output w.new).contents (layout_of romfs m cs))) }
-    ensures quiet { OnOk result ((S.reads sources.new ≡ S.reads sources.old)
-        × ((W.output w.new).failures ≡ (W.output w.old).failures)) }
-    ensures front { (m : ManifestLines) (sizes : List ℕ) → IsManifest m
-        → IsPlanOf romfs m sizes plan.now
-        → OnErr result (IfKnown (S.known sources.old) (λ cs. map length cs ≡ sizes → AppendsPrefix
-        (W.output w.old).contents (W.output w.new).contents (layout_of romfs m cs))) }
-    ensures fault { IfErr result (IsStreamFault (S.known sources.old) (form_of plan.now) balance_of
-        (S.reads sources.old) (S.reads sources.new) (W.output w.old) (W.output w.new)) }
+    ensures { StreamsPlan plan.now
+        (state (S.known sources.old) (S.files sources.old) (S.reads sources.old))
+        (state (S.known sources.new) (S.files sources.new) (S.reads sources.new))
+        (S.IsLog sources.old) (S.IsLog sources.new) (W.output w.old) (W.output w.new) result }
 {
     let mut space: [u8; 4096] = [0; 4096];
     stream_through(plan, sources, w, space.as_mut_slice())

@@ -1,10 +1,9 @@
 use Rattle.std.proofs.Common.{ℕ, List, length, sym, ap, subst, ◌∙◌}
 use Rattle.std.specs.Io.KnownBytes.{Appends}
-use Rattle.std.specs.Prelude.{IfErr, OnOk}
 use Rattle.rom_fields.specs.Written.{AppendsPrefix}
 use Rattle.cramfs_format.specs.declared.order.Order.{Order}
 use Rattle.crc.specs.Crc.{crc_of}
-use Rattle.image_stream.specs.Outcomes.{IsStreamFault, IsStreamed}
+use Rattle.image_stream.specs.Outcomes.{Streams, state}
 use Rattle.image_stream.specs.Segments.{Form, image_of}
 use Rattle.plan_types.specs.Plans.{Planned, IsPlanOf}
 use Rattle.formats.specs.Format.{cramfs}
@@ -20,54 +19,46 @@ stream_through-requires-clause-laid g c =
     let f = c.new-form.result in
     laid_out f.order f.plan.now (subst IsCramfsPlan (sym c.new-form.ensures.plan) c.facts.ensures.plan)
 
-pub returns-clause-whole : goal.returns-clause-whole
-returns-clause-whole g c = λ o m sizes hm is.
-    let e = sym c.new-form.ensures.plan in
-    let p = c.new-form.result.plan.now in
-    let facts = subst IsCramfsPlan e c.facts.ensures.plan in
-    let same = c.new-form.ensures.order ∙ one_order (sym c.order_of-order.ensures ∙ is.format) in
-    let is' = subst (IsPlanOf (cramfs o) m sizes) e is in
-    let n = c.requires.files ∙ ap (λ (p : Planned). length p.sizes) e in
-    let old = (g.W.ByteWrite.output c.args.w.now).contents in
-    let new = (g.W.ByteWrite.output c.stream_through.new.w).contents in
-    ok_both c.stream_through.result (λ sized whole cs known.
-    let r = sized_means c.fitting_is_planned.ensures o p m sizes cs hm facts is' (c.count.ensures.known cs known ∙ n)
-    (sized cs known) in (
-      r.0,
-      subst (Appends old new) (ap (λ (q : Order). image_of (form_of q p) crc_of cs) same ∙ r.1)
-          (whole cs known),
-    )) c.stream_through.ensures.sized c.stream_through.ensures.whole
-
-pub returns-clause-front : goal.returns-clause-front
-returns-clause-front g c = λ o m sizes hm is.
-    let e = sym c.new-form.ensures.plan in
-    let p = c.new-form.result.plan.now in
-    let facts = subst IsCramfsPlan e c.facts.ensures.plan in
-    let same = c.new-form.ensures.order ∙ one_order (sym c.order_of-order.ensures ∙ is.format) in
-    let is' = subst (IsPlanOf (cramfs o) m sizes) e is in
-    let old = (g.W.ByteWrite.output c.args.w.now).contents in
-    let new = (g.W.ByteWrite.output c.stream_through.new.w).contents in
-    err_weaker c.stream_through.result (λ h cs known s.
-    let r = means c.fitting_is_planned.ensures o p m cs hm facts
-    (subst (λ (xs : List ℕ). IsPlanOf (cramfs o) m xs p) (sym s) is') in
-    subst (AppendsPrefix old new) (ap (λ (q : Order). image_of (form_of q p) crc_of cs) same ∙ r)
-    (h cs known)) c.stream_through.ensures.front
-
-pub returns-clause-fault : goal.returns-clause-fault
-returns-clause-fault g c = λ o is.
-    let e = c.new-form.ensures in
-    let same = one_order (sym c.order_of-order.ensures ∙ is) in
-    subst (λ (f : Form). IfErr c.stream_through.result (IsStreamFault (g.S.Sources.known c.args.sources.now) f crc_of
-    (g.S.Sources.reads c.args.sources.now) (g.S.Sources.reads c.stream_through.new.sources)
-    (g.W.ByteWrite.output c.args.w.now) (g.W.ByteWrite.output c.stream_through.new.w)))
-    (one_form (e.order ∙ same) e.plan) c.stream_through.ensures.fault
-
-pub returns-clause-some : goal.returns-clause-some
-returns-clause-some g c = λ o is.
-    let e = c.new-form.ensures in
-    let same = one_order (sym c.order_of-order.ensures ∙ is) in
-    subst (λ (f : Form). OnOk c.stream_through.result
-    (IsStreamed (g.S.Sources.known c.args.sources.now) (g.S.Sources.IsLog c.args.sources.now)
-    (g.S.Sources.IsLog c.stream_through.new.sources) f crc_of
-    (g.W.ByteWrite.output c.args.w.now).contents (g.W.ByteWrite.output c.stream_through.new.w).contents))
-    (one_form (e.order ∙ same) e.plan) c.stream_through.ensures.some
+pub returns : goal.returns
+returns g c = record {
+  streams = λ o is.
+      let now = c.args.sources.now in
+      let new = c.stream_through.new.sources in
+      let e = c.new-form.ensures in
+      let same = one_order (sym c.order_of-order.ensures ∙ is) in
+      subst (λ (f : Form). Streams f crc_of
+      (state (g.S.Sources.known now) (g.S.Sources.files now) (g.S.Sources.reads now))
+      (state (g.S.Sources.known new) (g.S.Sources.files new) (g.S.Sources.reads new))
+      (g.S.Sources.IsLog now) (g.S.Sources.IsLog new) (g.W.ByteWrite.output c.args.w.now)
+      (g.W.ByteWrite.output c.stream_through.new.w) c.stream_through.result)
+      (one_form (e.order ∙ same) e.plan) c.stream_through.ensures;
+  whole = λ o m sizes hm is.
+      let e = sym c.new-form.ensures.plan in
+      let p = c.new-form.result.plan.now in
+      let facts = subst IsCramfsPlan e c.facts.ensures.plan in
+      let same = c.new-form.ensures.order ∙ one_order (sym c.order_of-order.ensures ∙ is.format) in
+      let is' = subst (IsPlanOf (cramfs o) m sizes) e is in
+      let n = c.requires.files ∙ ap (λ (p : Planned). length p.sizes) e in
+      let old = (g.W.ByteWrite.output c.args.w.now).contents in
+      let new = (g.W.ByteWrite.output c.stream_through.new.w).contents in
+      ok_both c.stream_through.result (λ sized whole cs known.
+      let r = sized_means c.fitting_is_planned.ensures o p m sizes cs hm facts is' (c.count.ensures.known cs known ∙ n)
+      (sized cs known) in (
+        r.0,
+        subst (Appends old new) (ap (λ (q : Order). image_of (form_of q p) crc_of cs) same ∙ r.1)
+            (whole cs known),
+      )) c.stream_through.ensures.sized c.stream_through.ensures.whole;
+  front = λ o m sizes hm is.
+      let e = sym c.new-form.ensures.plan in
+      let p = c.new-form.result.plan.now in
+      let facts = subst IsCramfsPlan e c.facts.ensures.plan in
+      let same = c.new-form.ensures.order ∙ one_order (sym c.order_of-order.ensures ∙ is.format) in
+      let is' = subst (IsPlanOf (cramfs o) m sizes) e is in
+      let old = (g.W.ByteWrite.output c.args.w.now).contents in
+      let new = (g.W.ByteWrite.output c.stream_through.new.w).contents in
+      err_weaker c.stream_through.result (λ h cs known s.
+      let r = means c.fitting_is_planned.ensures o p m cs hm facts
+      (subst (λ (xs : List ℕ). IsPlanOf (cramfs o) m xs p) (sym s) is') in
+      subst (AppendsPrefix old new) (ap (λ (q : Order). image_of (form_of q p) crc_of cs) same ∙ r)
+      (h cs known)) c.stream_through.ensures.front;
+}
