@@ -2,3 +2,4 @@ mod Orders
 mod Taken
 mod Walks
 mod Moved
+mod Known

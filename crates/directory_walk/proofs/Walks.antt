@@ -139,7 +139,7 @@ ends {T} t found w =
     subst (λ (l : List (Name T)). IsPermutation (all_below t.path t.tree) l)
     (ap (λ (l : List (Name T)). found ++ l) w.pending ∙ append-nil found) w.all
 
--- ---- where the tree is told
+-- ---- where the tree is reported
 
 abbrev pub Walking : {T : Type 0} → Option (Top T) → List (Name T) → List (List ℕ) → Type 0
 Walking None found ws = ⊤

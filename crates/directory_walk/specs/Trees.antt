@@ -1,21 +1,21 @@
 -- `Tree`: what a directory has in it. `all_below`: all entries below a directory, by their paths.
--- `AreAllBelow`, `AreInOrder`: these are exactly those, each once; and they are in the order of the
--- bytes of their paths. `IsDirectoryOf`, `IsReached`: the directories that a walk enters. (This
--- project's own.)
+-- `AreAllBelow`: entries are exactly those of `all_below`, each once. `AreInOrder`: they are in the
+-- order of the bytes of their paths. `IsDirectoryOf`, `IsReached`: the directories that a walk
+-- enters. (This project's own.)
 use Rattle.std.specs.Prelude.{◌≡◌, ◌⊎◌, ℕ, Bool, true, false, List, [], ◌∷◌, ◌++◌, Option, Some}
 use Rattle.std.specs.Prelude.{None, ⊤, if◌then◌else◌}
 use Rattle.std.specs.Cmp.Lexicographic.{slice_cmp}
 use Rattle.std.specs.List.Sorted.{IsPermutation, IsSortedByKey}
 use Rattle.std.specs.Ordering.{nat_cmp}
 
--- what a directory has in it: nothing more; or an entry, by its name and what is told of it, and
--- more; or such an entry that is a directory to be entered, with what that has in it, and more
+-- what a directory has in it: nothing more; or an entry, by its name and what is reported of it,
+-- and more; or such an entry that is a directory to be entered, with what that has in it, and more
 pub data Tree (T : Type 0) : Type 0 where
   Nil : Tree T
   Leaf : List ℕ → T → Tree T → Tree T
   Branch : List ℕ → T → Tree T → Tree T → Tree T
 
--- an entry by its path, with what is told of it, and whether it is entered
+-- an entry by its path, with what is reported of it, and whether it is entered
 pub record Name (T : Type 0) : Type 0 where
   pub path : List ℕ
   pub known : T
@@ -64,17 +64,17 @@ abbrev pub IsDirectoryOf : {T : Type 0} → Option (Top T) → List ℕ → Tree
 IsDirectoryOf None p g = ⊥
 IsDirectoryOf (Some t) p g = IsIn t.path t.tree p g
 
--- if a tree is told, this is the path of its top, or of a directory to be entered below it
+-- if a tree is reported, this is the path of its top, or of a directory to be entered below it
 abbrev pub IsReached : {T : Type 0} → Option (Top T) → List ℕ → Type 0
 IsReached None p = ⊤
 IsReached {T} (Some t) p = (g : Tree T) × IsIn t.path t.tree p g
 
--- if a tree is told, it is the one of this path
+-- if a tree is reported, it is the one of this path
 abbrev pub IsTop : {T : Type 0} → Option (Top T) → List ℕ → Type 0
 IsTop None path = ⊤
 IsTop (Some t) path = path ≡ t.path
 
--- these are exactly the entries below the top, each once, if a tree is told
+-- these are exactly the entries below the top, each once, if a tree is reported
 abbrev pub AreAllBelow : {T : Type 0} → Option (Top T) → List (Name T) → Type 0
 AreAllBelow None names = ⊤
 AreAllBelow (Some t) names = IsPermutation (all_below t.path t.tree) names

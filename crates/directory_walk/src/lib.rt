@@ -2,11 +2,13 @@
 //! directory and each directory that is found, and sorts the entries by the bytes of their paths.
 //!
 //! Proved, for every implementation of `Lister`: the entries that a walk finds are exactly those of
-//! the tree that the lister tells, each once, in the order of the bytes of their paths. The
+//! the tree that the lister reports, each once, in the order of the bytes of their paths. The
 //! directories that it entered are the first one and those that were found, each once. An error is
 //! one that the lister gave, with the path of the directory that it was asked for.
 #![tactic(auto)]
 
+#[cfg(test)]
+mod fixed;
 pub mod laws;
 mod lister;
 #[cfg(test)]

@@ -10,7 +10,7 @@ pub struct Directory<S> {
     pub state: S,
 }
 
-/// An entry of a directory, by its path, with what the lister tells of it.
+/// An entry of a directory, by its path, with what the lister reports of it.
 #[derive(Drop)]
 pub struct Listed<T, S> {
     pub path: String,
@@ -19,7 +19,7 @@ pub struct Listed<T, S> {
     pub state: Option<S>,
 }
 
-/// An entry that a walk found, by its path, with what the lister told of it.
+/// An entry that a walk found, by its path, with what the lister reported of it.
 #[derive(Drop)]
 pub struct Entry<T> {
     pub path: String,
@@ -31,7 +31,7 @@ pub struct Entry<T> {
 /// What lists the directories of a tree, each by its path. The path of an entry is the one of its
 /// directory, a slash, and its name.
 pub trait Lister {
-    /// What is told of an entry.
+    /// What is reported of an entry.
     type Known: Drop;
 
     /// What is noted of a directory when it is found.
@@ -40,7 +40,7 @@ pub trait Lister {
     /// The reason why a directory cannot be listed.
     type Error: Drop;
 
-    // The tree that is told, if there is one that does not change.
+    // The tree that is reported, if there is one that does not change.
     ghost tree: { Self → Option (Top Self.Known) };
 
     // Whether this error was given for the directory of this path.

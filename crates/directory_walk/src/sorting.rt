@@ -7,7 +7,7 @@ use crate::lister::Entry;
 use rom_fields::OutOfMemory;
 
 /// Sorts entries by the bytes of their paths.
-pub fn sort<T: Drop>(entries: &mut Vec<Entry<T>>) -> Result<(), OutOfMemory>
+pub(crate) fn sort<T: Drop>(entries: &mut Vec<Entry<T>>) -> Result<(), OutOfMemory>
     ensures same { OnOk result (IsPermutation (names_of entries.old.items)
         (names_of entries.new.items)) }
     ensures order { OnOk result (AreInOrder (names_of entries.new.items)) }

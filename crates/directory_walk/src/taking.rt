@@ -38,7 +38,7 @@ fn take_one<T: Drop, S: Drop>(
 
 /// Adds the entries of a directory to those that were found, and its directories to those that are
 /// still to be listed.
-pub fn take_in<T: Drop, S: Drop>(
+pub(crate) fn take_in<T: Drop, S: Drop>(
     found: &mut Vec<Entry<T>>,
     waiting: &mut Vec<Directory<S>>,
     listed: Vec<Listed<T, S>>,

@@ -1,4 +1,5 @@
 //! Walks through directories in memory.
+use crate::fixed::walked;
 use crate::lister::Directory;
 use crate::simulated::{ListError, Row, Simulated};
 use crate::walking::{WalkError, Walked, walk};
@@ -33,6 +34,9 @@ const SORTED: [(&str, usize); 9] = [
 
 /// The directories in the order in which they are entered: of those found, the last one first.
 const ENTERED: [&str; 4] = ["t", "t/a-", "t/a", "t/a/b"];
+
+/// The entries of the tree that is known, in the order of the bytes of their paths.
+const KNOWN: [&str; 3] = ["t/a", "t/a/b", "t/z"];
 
 /// How a walk of the directory `t` ends.
 type Ended = Result<Walked<usize, ()>, WalkError<ListError>>;
@@ -106,6 +110,22 @@ fn empty_directory(rt: HostRuntime) -> Result<(), Fail> {
         Ok(walked) => {
             assert!(rt; has_found(&walked, &[]));
             assert!(rt; has_entered(&walked, &["t"]));
+        }
+        Err(_) => assert!(rt; false),
+    }
+    Ok(())
+}
+
+#[test]
+fn entries_of_a_tree_that_is_known(rt: HostRuntime) -> Result<(), Fail> {
+    let top = String::from_str(rt.alloc(), "t")?;
+    match walked(rt.alloc(), top) {
+        Ok(walked) => {
+            let mut is_same = walked.entries.len() == KNOWN.len();
+            for (entry, path) in walked.entries.iter().zip(&KNOWN) {
+                is_same = is_same && entry.path.as_str() == *path;
+            }
+            assert!(rt; is_same);
         }
         Err(_) => assert!(rt; false),
     }
