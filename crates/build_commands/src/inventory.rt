@@ -1,8 +1,8 @@
 //! The manifest of a directory as it is: each file below it, of whatever kind.
 ghost use Rattle.std.specs.Prelude.{◌≡◌, ℕ, IfOk, OnOk, map, option_map, string_bytes};
 ghost use Rattle.build_commands.specs.Inventory.{aligned, fitted, found_line, further_line};
-ghost use Rattle.build_commands.specs.Inventory.{hard_line, has_hard_links, lines_found, name_line};
-ghost use Rattle.build_commands.specs.Inventory.{path_behind, same_line};
+ghost use Rattle.build_commands.specs.Inventory.{hard_line, has_hard_links, line_by, lines_found};
+ghost use Rattle.build_commands.specs.Inventory.{name_line, path_behind, plain_line, same_line};
 ghost use Rattle.build_commands.specs.Noted.{noted, noted_with};
 ghost use Rattle.manifest.specs.Printed.{manifest_text};
 ghost use Rattle.manifest.specs.Entries.{line_of};
@@ -98,11 +98,11 @@ pub fn align_of(mode: u32, is_program: bool, align: u32) -> u32
     }
 }
 
-/// The line of a file as the system reports it.
-fn found_line<'a>(file: &'a NamedFile) -> Entry<'a>
-    ensures { line_of result ≡ found_line file.now }
+/// The line of a directory with the path, the mode and the owner of a file.
+fn plain_line<'a>(file: &'a NamedFile) -> Entry<'a>
+    ensures { line_of result ≡ plain_line file.now }
 {
-    let plain = Entry {
+    Entry {
         word: Word::Dir,
         path: file.path(),
         mode: file.mode,
@@ -112,7 +112,13 @@ fn found_line<'a>(file: &'a NamedFile) -> Entry<'a>
         major: 0,
         minor: 0,
         text: b"",
-    };
+    }
+}
+
+/// The line of a file by its kind, if that of a directory with its attributes would be `plain`.
+fn line_by<'a>(file: &'a NamedFile, plain: Entry<'a>) -> Entry<'a>
+    ensures { line_of result ≡ line_by file.entry.now.kind file.entry.now (line_of plain.entry) }
+{
     match &file.kind {
         FileKind::Directory => plain,
         FileKind::Regular => Entry {
@@ -147,6 +153,13 @@ fn found_line<'a>(file: &'a NamedFile) -> Entry<'a>
             ..plain
         },
     }
+}
+
+/// The line of a file as the system reports it.
+fn found_line<'a>(file: &'a NamedFile) -> Entry<'a>
+    ensures { line_of result ≡ found_line file.now }
+{
+    line_by(file, plain_line(file))
 }
 
 /// Whether a manifest of this format has `hard` lines.

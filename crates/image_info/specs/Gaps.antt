@@ -16,7 +16,8 @@ use Rattle.cramfs_format.specs.Refers.{references as cramfs_references, root_pla
 use Rattle.cramfs_format.specs.Made.{grow as cramfs_grow}
 use Rattle.cramfs_format.specs.Superblock.{accessible as cramfs_accessible}
 use Rattle.cramfs_format.specs.Tree.{extents_of as extents_of_cramfs}
-use Rattle.cramfs_image.specs.Reported.{order_in}
+use Rattle.romfs_image.specs.Reported.{image_of as romfs_image_of}
+use Rattle.cramfs_image.specs.Reported.{image_of as cramfs_image_of, order_in}
 use Rattle.image_check.specs.Any.{any_view, report_of}
 use Rattle.image_check.specs.Checked.{Shows, HasFormat}
 use Rattle.image_check.specs.declared.any.AnyImage.{AnyImage}
@@ -60,8 +61,8 @@ cramfs_gaps o all =
 
 -- by the image's format
 abbrev pub gaps_of : AnyImage → ℕ
-gaps_of (Romfs s) = romfs_gaps s.all.now
-gaps_of (Cramfs s) = cramfs_gaps (order_in s) s.all.now
+gaps_of (Romfs s) = romfs_gaps (romfs_image_of s).bytes
+gaps_of (Cramfs s) = cramfs_gaps (order_in s) (cramfs_image_of s).bytes
 
 -- a check of its bytes returned this image
 pub record IsChecked (a : AnyImage) : Type 0 where

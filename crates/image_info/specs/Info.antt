@@ -10,7 +10,8 @@ use Rattle.romfs_format.specs.Tree.{full_size}
 use Rattle.cramfs_format.specs.declared.order.Order.{Order}
 use Rattle.cramfs_format.specs.Order.{word}
 use Rattle.cramfs_format.specs.Superblock.{accessible_size, flags_of}
-use Rattle.cramfs_image.specs.Reported.{order_in}
+use Rattle.romfs_image.specs.Reported.{image_of as romfs_image_of}
+use Rattle.cramfs_image.specs.Reported.{image_of as cramfs_image_of, order_in}
 use Rattle.formats.specs.Format.{name_of}
 use Rattle.image_check.specs.declared.any.AnyImage.{AnyImage}
 use Rattle.image_check.specs.declared.any.AnyImage.TheVariants.{Romfs, Cramfs}
@@ -56,8 +57,8 @@ cramfs_text file o b =
 
 -- by the image's format
 abbrev pub fields_text : ℕ → AnyImage → List ℕ
-fields_text file (Romfs s) = romfs_text file s.all.now
-fields_text file (Cramfs s) = cramfs_text file (order_in s) s.all.now
+fields_text file (Romfs s) = romfs_text file (romfs_image_of s).bytes
+fields_text file (Cramfs s) = cramfs_text file (order_in s) (cramfs_image_of s).bytes
 
 -- the format, and the superblock
 abbrev pub superblock_text : ℕ → AnyImage → List ℕ

@@ -3,6 +3,8 @@
 -- include/uapi/linux/cramfs_fs.h: `name[16]`, at 48 of the superblock.)
 use Rattle.std.specs.Prelude.{ℕ, List, take, drop}
 use Rattle.romfs_format.specs.Record.{before_zero}
+use Rattle.romfs_image.specs.Reported.{image_of as romfs_image_of}
+use Rattle.cramfs_image.specs.Reported.{image_of as cramfs_image_of}
 use Rattle.image_check.specs.declared.any.AnyImage.{AnyImage}
 use Rattle.image_check.specs.declared.any.AnyImage.TheVariants.{Romfs, Cramfs}
 
@@ -16,5 +18,5 @@ cramfs_volume b = before_zero (take 16 (drop 48 b))
 
 -- the volume's name, by the image's format
 abbrev pub volume_of : AnyImage → List ℕ
-volume_of (Romfs s) = romfs_volume s.all.now
-volume_of (Cramfs s) = cramfs_volume s.all.now
+volume_of (Romfs s) = romfs_volume (romfs_image_of s).bytes
+volume_of (Cramfs s) = cramfs_volume (cramfs_image_of s).bytes

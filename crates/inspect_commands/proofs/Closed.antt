@@ -1,17 +1,20 @@
 -- How a command ends, from what was written before the flush.
-use Rattle.std.proofs.Common.{◌≡◌, ℕ, [], refl, ◌-◌, ◌^◌, inl, inr, sym, ◌∙◌, subst, List, Result, Ok, Err, arith}
+use Rattle.std.proofs.Common.{◌≡◌, ℕ, [], refl, ◌-◌, ◌^◌, inl, inr, sym, ◌∙◌, subst, List, Bool, true, false, arith}
+use Rattle.std.proofs.Common.{Option, Some, None}
+use Rattle.std.specs.Prelude.{◌⊎◌}
 use Rattle.std.specs.Io.KnownBytes.{Keeps}
 use Rattle.std.proofs.lemmas.Bool.{cases_lt}
 use Rattle.rom_fields.specs.Failures.{Rose, one_more}
 use Rattle.rom_fields.specs.Written.{AppendsPrefix, Output}
 use Rattle.rom_fields.proofs.Joins.{appends_keep, appends_none, front_all}
-use Rattle.rom_commands.specs.declared.status.Status.{Status}
-use Rattle.rom_commands.specs.declared.status.Status.TheVariants.{Done}
-use Rattle.std.specs.Prelude.{IfOk}
+use Rattle.rom_commands.specs.declared.ending.Ending.{Ending}
+use Rattle.rom_commands.specs.declared.ending.Ending.TheVariants.{Done, Warned, Fault, NoFile, Usage, Memory, ReadFault}
+use Rattle.rom_commands.specs.declared.ending.Ending.TheVariants.{WriteFault, TooManyReads, File, Changed, LongPath}
+use Rattle.rom_commands.specs.declared.ending.Ending.TheVariants.{LongVolume}
 use Rattle.rom_commands.proofs.Printed.{counted}
-use Rattle.inspect_commands.specs.declared.ending.Stopped.{Stopped}
-use Rattle.inspect_commands.specs.declared.ending.Stopped.TheVariants.{Memory, LongPath, WriteFault}
-use Rattle.inspect_commands.specs.Ends.{Closes, Ends, Finishes, HasText, MayStop, Writes}
+use Rattle.inspect_commands.specs.Ends.{Closes, Ends, Fails, Finishes, HasText, IsPictured, MayStop, Says, Short, Whole}
+use Rattle.inspect_commands.specs.Ends.{Writes, is_whole}
+use Rattle.inspect_commands.specs.Texts.{places_ending, printed_ending, verdict_ending}
 
 front_keep : (old mid new : Output) (text : List ℕ) → AppendsPrefix old.contents mid.contents text
     → Keeps mid.contents new.contents → AppendsPrefix old.contents new.contents text
@@ -44,67 +47,117 @@ more_rose a b c k e =
       | inr h ↦ inr h
     ]
 
-module _ (Text : HasText) (Stop : MayStop) (old mid new err err' : Output) (result : Status)
+module _ (Text : HasText) (Stop : MayStop) (old mid new err err' : Output) (result : Ending)
     (k : Keeps mid.contents new.contents) where
-  stopped : (why : Stopped) → (text : List ℕ) → Stop why text → AppendsPrefix old.contents mid.contents text
-      → mid.failures ≡ old.failures → Closes mid new err err' (Err why) result
+  stopped : (why : Ending) → Short Stop old mid why → is_whole why ≡ false → Closes mid new err err' why result
       → Ends Text Stop old new err err' result
-  stopped why text is front quiet (inl f) = inr (inr (record {
-    why = why;
-    text = text;
-    is = is;
-    front = front_keep old mid new text front k;
-    flushed = counted new.flushes mid.flushes f.1;
-    quiet = f.0 ∙ quiet;
-    fails = f.2;
-  }))
-  stopped why text is front quiet (inr f) = inr (inl (record {
-    text = text;
-    is = inr (why, is);
-    front = front_keep old mid new text front k;
-    rose = more_rose old.failures mid.failures new.failures quiet f.0;
+  stopped why h e (inl f) =
+      let said : Fails why err err' result = subst (λ b. Says b why err err' result) e f.2 in
+      inr (inr (record {
+        why = why;
+        text = h.0;
+        is = h.1;
+        front = front_keep old mid new h.0 h.2 k;
+        flushed = counted new.flushes mid.flushes f.1;
+        quiet = f.0 ∙ h.3;
+        fails = said;
+      }))
+  stopped why h e (inr f) = inr (inl (record {
+    text = h.0;
+    is = inr (why, h.1);
+    front = front_keep old mid new h.0 h.2 k;
+    rose = more_rose old.failures mid.failures new.failures h.3 f.0;
     fails = f.1;
   }))
 
-  pub closed : (printed : Result Status Stopped) → Writes Text Stop old mid printed
-      → Closes mid new err err' printed result
+  whole : (s : Ending) → Whole Text old mid s → is_whole s ≡ true → Closes mid new err err' s result
       → Ends Text Stop old new err err' result
-  closed (Ok s) h (inl f) = inl (record {
-    text = h.0;
-    is = subst (λ v. Text h.0 v) (sym f.2.0) h.1;
-    whole = appends_keep old.contents mid.contents new.contents h.0 h.2 k;
-    flushed = counted new.flushes mid.flushes f.1;
-    quiet = f.0 ∙ h.3;
-    unsaid = f.2.1;
-  })
-  closed (Ok s) h (inr f) = inr (inl (record {
+  whole s h e (inl f) =
+      let said : (result ≡ s) × (err' ≡ err) = subst (λ b. Says b s err err' result) e f.2 in
+      inl (record {
+        text = h.0;
+        is = subst (λ v. Text h.0 v) (sym said.0) h.1;
+        whole = appends_keep old.contents mid.contents new.contents h.0 h.2 k;
+        flushed = counted new.flushes mid.flushes f.1;
+        quiet = f.0 ∙ h.3;
+        unsaid = said.1;
+      })
+  whole s h e (inr f) = inr (inl (record {
     text = h.0;
     is = inl (s, h.1);
     front = front_all old.contents new.contents h.0 (appends_keep old.contents mid.contents new.contents h.0 h.2 k);
     rose = more_rose old.failures mid.failures new.failures h.3 f.0;
     fails = f.1;
   }))
-  closed (Err WriteFault) h (inl f) = inr (inl (record {
+
+  pub closed : (printed : Ending) → Writes Text Stop old mid printed → Closes mid new err err' printed result
+      → Ends Text Stop old new err err' result
+  closed Done h f = whole Done h refl f
+  closed Warned h f = whole Warned h refl f
+  closed WriteFault h (inl f) = inr (inl (record {
     text = h.0;
     is = inl h.1;
     front = front_keep old mid new h.0 h.2 k;
     rose = rose_stays old.failures mid.failures new.failures h.3 f.0;
     fails = f.2;
   }))
-  closed (Err WriteFault) h (inr f) = inr (inl (record {
+  closed WriteFault h (inr f) = inr (inl (record {
     text = h.0;
     is = inl h.1;
     front = front_keep old mid new h.0 h.2 k;
     rose = rose_more old.failures mid.failures new.failures h.3 f.0;
     fails = f.1;
   }))
-  closed (Err Memory) h f = stopped Memory h.0 h.1 h.2 h.3 f
-  closed (Err LongPath) h f = stopped LongPath h.0 h.1 h.2 h.3 f
+  closed Memory h f = stopped Memory h refl f
+  closed LongPath h f = stopped LongPath h refl f
+  closed (Fault fault image) h f = absurd h
+  closed (NoFile e) h f = absurd h
+  closed Usage h f = absurd h
+  closed ReadFault h f = absurd h
+  closed TooManyReads h f = absurd h
+  closed (File name) h f = absurd h
+  closed Changed h f = absurd h
+  closed LongVolume h f = absurd h
 
--- a text of which nothing is known: the status is `Done` only after a flush
-pub finished : (old new err err' : Output) (result : Status) (printed : Result Status Stopped)
-    → IfOk printed (λ s. s ≡ Done) → Closes old new err err' printed result → Finishes new err err' result
-finished old new err err' result (Ok s) h (inl f) = inl (f.2.0 ∙ h, counted new.flushes old.flushes f.1, f.2.1)
-finished old new err err' result (Ok s) h (inr f) = inr (WriteFault, f.1)
-finished old new err err' result (Err why) h (inl f) = inr (why, f.2)
-finished old new err err' result (Err why) h (inr f) = inr (WriteFault, f.1)
+-- a text of which nothing is known: the ending is `Done` only after a flush
+pub finished : (old new err err' : Output) (result printed : Ending) → IsPictured printed
+    → Closes old new err err' printed result → Finishes new err err' result
+finished old new err err' result Done h (inl f) =
+    subst (λ v. Finishes new err err' v) (sym f.2.0) (counted new.flushes old.flushes f.1, f.2.1)
+finished old new err err' result Memory h (inl f) = subst (λ v. Finishes new err err' v) (sym f.2.1) f.2.0
+finished old new err err' result WriteFault h (inl f) = subst (λ v. Finishes new err err' v) (sym f.2.1) f.2.0
+finished old new err err' result printed h (inr f) = subst (λ v. Finishes new err err' v) (sym f.1.1) f.1.0
+finished old new err err' result Warned h (inl f) = absurd h
+finished old new err err' result (Fault fault image) h (inl f) = absurd h
+finished old new err err' result (NoFile e) h (inl f) = absurd h
+finished old new err err' result Usage h (inl f) = absurd h
+finished old new err err' result ReadFault h (inl f) = absurd h
+finished old new err err' result TooManyReads h (inl f) = absurd h
+finished old new err err' result (File name) h (inl f) = absurd h
+finished old new err err' result Changed h (inl f) = absurd h
+finished old new err err' result LongPath h (inl f) = absurd h
+finished old new err err' result LongVolume h (inl f) = absurd h
+
+-- a text that was written whole
+pub whole_written : (Text : HasText) (Stop : MayStop) (old new : Output) (o : Ending) → (o ≡ Done) ⊎ (o ≡ Warned)
+    → Whole Text old new o → Writes Text Stop old new o
+whole_written Text Stop old new o (inl e) h =
+    let P : Ending → Type 0 = λ v. Writes Text Stop old new v in
+    let Q : Ending → Type 0 = λ v. Whole Text old new v in
+    subst P (sym e) (subst Q e h)
+whole_written Text Stop old new o (inr e) h =
+    let P : Ending → Type 0 = λ v. Writes Text Stop old new v in
+    let Q : Ending → Type 0 = λ v. Whole Text old new v in
+    subst P (sym e) (subst Q e h)
+
+pub by_printed : (b : Bool) → (printed_ending b ≡ Done) ⊎ (printed_ending b ≡ Warned)
+by_printed true = inr refl
+by_printed false = inl refl
+
+pub by_places : (b : Bool) → (places_ending b ≡ Done) ⊎ (places_ending b ≡ Warned)
+by_places true = inl refl
+by_places false = inr refl
+
+pub by_verdict : (v : Option ℕ) → (verdict_ending v ≡ Done) ⊎ (verdict_ending v ≡ Warned)
+by_verdict None = inl refl
+by_verdict (Some at) = inr refl

@@ -18,9 +18,8 @@ use Rattle.image_extents.specs.Lines.{extents_text}
 use Rattle.image_extents.specs.Which.{is_inside, which_text}
 use Rattle.image_header.specs.Header.{header_text}
 use Rattle.image_header.specs.Header.{HasLongPath as HeaderHasLongPath}
-use Rattle.rom_commands.specs.declared.status.Status.{Status}
-use Rattle.rom_commands.specs.declared.status.Status.TheVariants.{Done, Refused}
-use Rattle.inspect_commands.specs.declared.ending.Stopped.TheVariants.{Memory, LongPath}
+use Rattle.rom_commands.specs.declared.ending.Ending.{Ending}
+use Rattle.rom_commands.specs.declared.ending.Ending.TheVariants.{Done, Warned, Memory, LongPath}
 use Rattle.inspect_commands.specs.Ends.{HasText, MayStop}
 
 -- no reason
@@ -43,26 +42,26 @@ StopsDigests m why text =
 abbrev pub IsDigest : List ℕ → HasText
 IsDigest bytes text s = (text ≡ input_line bytes) × (s ≡ Done)
 
--- whether a dump has an image of so many bytes: if it differs, the status is `Refused`
-abbrev pub verdict_status : Option ℕ → Status
-verdict_status None = Done
-verdict_status (Some at) = Refused
+-- whether a dump has an image of so many bytes: if it differs, the ending is `Warned`
+abbrev pub verdict_ending : Option ℕ → Ending
+verdict_ending None = Done
+verdict_ending (Some at) = Warned
 
 abbrev pub IsVerdict : ℕ → Option ℕ → HasText
-IsVerdict size found text s = (text ≡ verdict_text size found) × (s ≡ verdict_status found)
+IsVerdict size found text s = (text ≡ verdict_text size found) × (s ≡ verdict_ending found)
 
--- in what two images differ: if there is a line, the status is `Refused`
-abbrev pub printed_status : Bool → Status
-printed_status true = Refused
-printed_status false = Done
+-- in what two images differ: if there is a line, the ending is `Warned`
+abbrev pub printed_ending : Bool → Ending
+printed_ending true = Warned
+printed_ending false = Done
 
-pub record IsDiff (places : Bool) (a b : Image) (text : List ℕ) (s : Status) : Type 0 where
+pub record IsDiff (places : Bool) (a b : Image) (text : List ℕ) (s : Ending) : Type 0 where
   pub old_names : List Name
   pub new_names : List Name
   pub old_sorted : AreSorted a.tree old_names
   pub new_sorted : AreSorted b.tree new_names
   pub same : text ≡ names_lines places a.bytes b.bytes old_names new_names
-  pub status : s ≡ printed_status (is_printed text)
+  pub ends : s ≡ printed_ending (is_printed text)
 
 -- memory was refused or a path is too long, and nothing was printed
 abbrev pub StopsDiff : Image → Image → MayStop
@@ -71,11 +70,11 @@ StopsDiff a b why text =
     ⊎ ((why ≡ LongPath) × (DiffHasLongPath a.tree ⊎ DiffHasLongPath b.tree)))
 
 -- the lines of the extents of an image that is in a file of so many bytes
-pub record IsExtents (a : AnyImage) (base file : ℕ) (text : List ℕ) (s : Status) : Type 0 where
+pub record IsExtents (a : AnyImage) (base file : ℕ) (text : List ℕ) (s : Ending) : Type 0 where
   pub found : Extents
   pub are : AreOf a found
   pub same : text ≡ extents_text base file found
-  pub status : s ≡ Done
+  pub ends : s ≡ Done
 
 -- the header of an image
 abbrev pub IsHeader : List ℕ → ℕ → Image → HasText
@@ -96,14 +95,14 @@ abbrev pub are_inside : ℕ → ℕ → Extents → List ℕ → Bool
 are_inside base file e [] = true
 are_inside base file e (a ∷ rest) = is_inside base file e a && are_inside base file e rest
 
--- if it has none at one of them, the status is `Refused`
-abbrev pub places_status : Bool → Status
-places_status true = Done
-places_status false = Refused
+-- if it has none at one of them, the ending is `Warned`
+abbrev pub places_ending : Bool → Ending
+places_ending true = Done
+places_ending false = Warned
 
 pub record IsPlaces (image : AnyImage) (base file : ℕ) (addresses text : List ℕ)
-    (s : Status) : Type 0 where
+    (s : Ending) : Type 0 where
   pub found : Extents
   pub are : AreOf image found
   pub same : text ≡ places_text base file found addresses
-  pub status : s ≡ places_status (are_inside base file found addresses)
+  pub ends : s ≡ places_ending (are_inside base file found addresses)

@@ -1,48 +1,38 @@
 //! How a command ends that printed a text.
+ghost use Rattle.std.specs.Prelude.{◌≡◌};
 ghost use Rattle.std.specs.Io.KnownBytes.{Keeps};
-ghost use Rattle.inspect_commands.specs.Ends.{Closes, Fails};
+ghost use Rattle.inspect_commands.specs.Ends.{Closes, is_whole};
 
-use rom_commands::{Failure, Status, report};
+use rom_commands::{Ending, report};
 use rom_fields::ByteWrite;
 
-/// Why a text was not printed whole.
-#[derive(Clone, Copy, Debug, PartialEq, Eq)]
-pub enum Stopped {
-    /// Memory was refused.
-    Memory,
-    /// A path of the image is too long.
-    LongPath,
-    /// A write failed.
-    WriteFault,
-}
-
-/// Says on `err` why a text was not printed whole.
-fn fail<E: ByteWrite>(why: Stopped, err: &mut E) -> Status
-    ensures { Fails why (E.output err.old) (E.output err.new) result }
+/// Whether a text was printed whole.
+fn is_whole(ending: Ending<'_>) -> bool
+    ensures { result ≡ is_whole ending.entry }
 {
-    match why {
-        Stopped::Memory => report(Failure::Memory, err),
-        Stopped::LongPath => report(Failure::LongPath, err),
-        Stopped::WriteFault => report(Failure::WriteFault, err),
+    match ending {
+        Ending::Done | Ending::Warned => true,
+        _ => false,
     }
 }
 
-/// Flushes `out`. Returns the status that the writing of a text gave, or says on `err` why it was
-/// not written whole. If the flush failed, that is what `err` says.
-pub(crate) fn end<W: ByteWrite, E: ByteWrite>(
+/// Flushes `out`. Returns how the writing of a text ended, and says on `err` why it was not written
+/// whole. If the flush failed, the ending is `WriteFault`, and that is what `err` says.
+pub(crate) fn end<'a, W: ByteWrite, E: ByteWrite>(
     out: &mut W,
     err: &mut E,
-    printed: Result<Status, Stopped>,
-) -> Status
+    printed: Ending<'a>,
+) -> Ending<'a>
     ensures kept { Keeps (W.output out.old).contents (W.output out.new).contents }
     ensures ends { Closes (W.output out.old) (W.output out.new)
-        (E.output err.old) (E.output err.new) printed result }
+        (E.output err.old) (E.output err.new) printed.entry result }
 {
     if out.flush().is_err() {
-        return fail(Stopped::WriteFault, err);
+        report(Ending::WriteFault, err);
+        return Ending::WriteFault;
     }
-    match printed {
-        Ok(status) => status,
-        Err(why) => fail(why, err),
+    if !is_whole(printed) {
+        report(printed, err);
     }
+    printed
 }

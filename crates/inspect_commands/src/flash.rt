@@ -1,16 +1,16 @@
 //! Where the bytes of an image lie in the flash.
-ghost use Rattle.std.specs.Prelude.{◌≡◌, ◌≤◌, IfOk};
+ghost use Rattle.std.specs.Prelude.{◌≤◌};
 ghost use Rattle.rom_tree.specs.Tree.{IsShallow};
 ghost use Rattle.image_info.specs.Gaps.{IsChecked};
-ghost use Rattle.inspect_commands.specs.Ends.{Ends, Finishes, Writes};
+ghost use Rattle.inspect_commands.specs.Ends.{Ends, Finishes, IsPictured, Writes};
 ghost use Rattle.inspect_commands.specs.Texts.{IsExtents, IsHeader, StopsHeader, StopsOfMemory};
 
-use crate::ending::{Stopped, end};
+use crate::ending::end;
 use image_check::AnyImage;
 use image_extents::{extents, write_extents};
 use image_header::{HeaderError, write_header};
 use image_picture::{PictureError, write_picture};
-use rom_commands::Status;
+use rom_commands::Ending;
 use rom_fields::ByteWrite;
 use rom_tree::TreeImage;
 use std::alloc::Global;
@@ -22,17 +22,17 @@ fn write_all<W: ByteWrite>(
     base: u64,
     file: u64,
     w: &mut W,
-) -> Result<Status, Stopped>
+) -> Ending<'static>
     requires { IsChecked image.now }
     ensures { Writes (IsExtents image.now base file) StopsOfMemory (W.output w.old) (W.output w.new)
         result }
 {
     let Ok(found) = extents(alloc, image) else {
-        return Err(Stopped::Memory);
+        return Ending::Memory;
     };
     match write_extents(&found, base, file, w) {
-        Ok(()) => Ok(Status::Done),
-        Err(_) => Err(Stopped::WriteFault),
+        Ok(()) => Ending::Done,
+        Err(_) => Ending::WriteFault,
     }
 }
 
@@ -42,22 +42,22 @@ fn write_macros<'a, T: TreeImage<'a>, W: ByteWrite>(
     base: u64,
     prefix: &[u8],
     w: &mut W,
-) -> Result<Status, Stopped>
+) -> Ending<'a>
     requires { IsShallow (T.image image.now).tree }
     ensures { Writes (IsHeader prefix.now base (T.image image.now))
         (StopsHeader prefix.now base (T.image image.now)) (W.output w.old) (W.output w.new) result }
 {
     match write_header(image, base, prefix, w) {
-        Ok(()) => Ok(Status::Done),
-        Err(HeaderError::LongPath) => Err(Stopped::LongPath),
-        Err(HeaderError::WriteFault) => Err(Stopped::WriteFault),
+        Ok(()) => Ending::Done,
+        Err(HeaderError::LongPath) => Ending::LongPath,
+        Err(HeaderError::WriteFault) => Ending::WriteFault,
     }
 }
 
 /// Prints to `out` the lines of the extents of a checked image, whose first byte has the address
-/// `base`, in a file of so many bytes, and flushes it. The status is `Done`. It is `Failed`, and
-/// `err` says why, if memory was refused, of which nothing is printed, or if a write or the flush
-/// failed.
+/// `base`, in a file of so many bytes, and flushes it. Returns `Done`. Otherwise `err` says why:
+/// `Memory` if memory was refused, of which nothing is printed, and `WriteFault` if a write or the
+/// flush failed.
 pub fn print_extents<W: ByteWrite, E: ByteWrite>(
     alloc: Global,
     image: &AnyImage<'_>,
@@ -65,7 +65,7 @@ pub fn print_extents<W: ByteWrite, E: ByteWrite>(
     file: u64,
     out: &mut W,
     err: &mut E,
-) -> Status
+) -> Ending<'static>
     requires { IsChecked image.now }
     ensures { Ends (IsExtents image.now base file) StopsOfMemory (W.output out.old)
         (W.output out.new) (E.output err.old) (E.output err.new) result }
@@ -75,16 +75,16 @@ pub fn print_extents<W: ByteWrite, E: ByteWrite>(
 }
 
 /// Prints to `out` a header for C and C++ of an image, whose first byte has the address `base`, and
-/// flushes it. The names of macros begin with the prefix. The status is `Done`. It is `Failed`, and
-/// `err` says why, if a write or the flush failed, or if the path of a regular file has more than
-/// 16,640 bytes.
+/// flushes it. The names of macros begin with the prefix. Returns `Done`. Otherwise `err` says why:
+/// `WriteFault` if a write or the flush failed, and `LongPath` if the path of a regular file has
+/// more than 16,640 bytes.
 pub fn print_header<'a, T: TreeImage<'a>, W: ByteWrite, E: ByteWrite>(
     image: &T,
     base: u64,
     prefix: &[u8],
     out: &mut W,
     err: &mut E,
-) -> Status
+) -> Ending<'a>
     requires { IsShallow (T.image image.now).tree }
     ensures { Ends (IsHeader prefix.now base (T.image image.now))
         (StopsHeader prefix.now base (T.image image.now)) (W.output out.old) (W.output out.new)
@@ -101,23 +101,23 @@ fn write_image<W: ByteWrite>(
     base: u64,
     file: u64,
     w: &mut W,
-) -> Result<Status, Stopped>
+) -> Ending<'static>
     requires { IsChecked image.now }
-    ensures { IfOk result (λ s. s ≡ Status.Done) }
+    ensures { IsPictured result }
 {
     let Ok(found) = extents(alloc, image) else {
-        return Err(Stopped::Memory);
+        return Ending::Memory;
     };
     match write_picture(alloc, &found, base, file, w) {
-        Ok(()) => Ok(Status::Done),
-        Err(PictureError::OutOfMemory) => Err(Stopped::Memory),
-        Err(PictureError::WriteFault) => Err(Stopped::WriteFault),
+        Ok(()) => Ending::Done,
+        Err(PictureError::OutOfMemory) => Ending::Memory,
+        Err(PictureError::WriteFault) => Ending::WriteFault,
     }
 }
 
 /// Prints to `out` a picture of the extents of a checked image, whose first byte has the address
-/// `base`, in a file of so many bytes, and flushes it. The status is `Done`. It is `Failed`, and
-/// `err` says why, if memory was refused or if a write or the flush failed.
+/// `base`, in a file of so many bytes, and flushes it. Returns `Done`. Otherwise `err` says why:
+/// `Memory` if memory was refused, and `WriteFault` if a write or the flush failed.
 pub fn print_picture<W: ByteWrite, E: ByteWrite>(
     alloc: Global,
     image: &AnyImage<'_>,
@@ -125,7 +125,7 @@ pub fn print_picture<W: ByteWrite, E: ByteWrite>(
     file: u64,
     out: &mut W,
     err: &mut E,
-) -> Status
+) -> Ending<'static>
     requires { IsChecked image.now }
     ensures { Finishes (W.output out.new) (E.output err.old) (E.output err.new) result }
 {

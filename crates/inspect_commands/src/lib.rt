@@ -2,8 +2,8 @@
 //! `map` with `--all`, `--c` and `--svg`.
 //!
 //! Proved: each call prints exactly the text that the specification of its crate gives, and the
-//! status says that everything was printed only after a flush succeeded. If a write or the flush
-//! failed, a prefix was printed, standard error says so and the status is `Failed`
+//! ending says that everything was printed only after a flush succeeded. If a write or the flush
+//! failed, a prefix was printed, standard error says so and the ending is `WriteFault`
 //! (`specs/Ends.antt`). Of a picture only the ending is proved, and not the text.
 #![tactic(auto)]
 
@@ -16,7 +16,6 @@ mod verdicts;
 
 pub use differences::print_diff;
 pub use digests::{print_digests, print_image_digest};
-pub use ending::Stopped;
 pub use flash::{print_extents, print_header, print_picture};
 pub use places::print_places;
 pub use verdicts::print_verdict;

@@ -7,13 +7,13 @@ ghost use Rattle.image_info.specs.Gaps.{IsChecked};
 ghost use Rattle.image_extents.specs.Apart.{AreApart};
 ghost use Rattle.image_extents.specs.Sorted.{start_of};
 ghost use Rattle.inspect_commands.specs.Ends.{Ends, Writes};
-ghost use Rattle.inspect_commands.specs.Texts.{IsPlaces, StopsOfMemory, are_inside, places_status};
+ghost use Rattle.inspect_commands.specs.Texts.{IsPlaces, StopsOfMemory, are_inside, places_ending};
 ghost use Rattle.inspect_commands.specs.Texts.{places_text};
 
-use crate::ending::{Stopped, end};
+use crate::ending::end;
 use image_check::AnyImage;
 use image_extents::{Extents, extents, write_which};
-use rom_commands::Status;
+use rom_commands::Ending;
 use rom_fields::{ByteWrite, Failed};
 use std::alloc::Global;
 
@@ -49,15 +49,11 @@ fn write_lines<W: ByteWrite>(
     Ok(inside)
 }
 
-/// The status, by whether the file has a byte at each address.
-fn places_status(inside: bool) -> Status
-    ensures { result ≡ places_status inside }
+/// The ending, by whether the file has a byte at each address.
+fn places_ending(inside: bool) -> Ending<'static>
+    ensures { result ≡ places_ending inside }
 {
-    if inside {
-        Status::Done
-    } else {
-        Status::Refused
-    }
+    if inside { Ending::Done } else { Ending::Warned }
 }
 
 /// Writes what is at some addresses of an image.
@@ -68,24 +64,24 @@ fn write_all<W: ByteWrite>(
     file: u64,
     addresses: &[u64],
     w: &mut W,
-) -> Result<Status, Stopped>
+) -> Ending<'static>
     requires { IsChecked image.now }
     ensures { Writes (IsPlaces image.now base file addresses.now) StopsOfMemory (W.output w.old)
         (W.output w.new) result }
 {
     let Ok(found) = extents(alloc, image) else {
-        return Err(Stopped::Memory);
+        return Ending::Memory;
     };
     match write_lines(&found, base, file, addresses, w) {
-        Ok(inside) => Ok(places_status(inside)),
-        Err(_) => Err(Stopped::WriteFault),
+        Ok(inside) => places_ending(inside),
+        Err(_) => Ending::WriteFault,
     }
 }
 
 /// Prints to `out` what is at some addresses of a checked image, whose first byte has the address
-/// `base`, in a file of so many bytes, and flushes it. The status is `Done`, or `Refused` if the
-/// file has no byte at one of the addresses. It is `Failed`, and `err` says why, if memory was
-/// refused, of which nothing is printed, or if a write or the flush failed.
+/// `base`, in a file of so many bytes, and flushes it. Returns `Done`, or `Warned` if the file has
+/// no byte at one of the addresses. Otherwise `err` says why: `Memory` if memory was refused, of
+/// which nothing is printed, and `WriteFault` if a write or the flush failed.
 pub fn print_places<W: ByteWrite, E: ByteWrite>(
     alloc: Global,
     image: &AnyImage<'_>,
@@ -94,7 +90,7 @@ pub fn print_places<W: ByteWrite, E: ByteWrite>(
     addresses: &[u64],
     out: &mut W,
     err: &mut E,
-) -> Status
+) -> Ending<'static>
     requires { IsChecked image.now }
     ensures { Ends (IsPlaces image.now base file addresses.now) StopsOfMemory (W.output out.old)
         (W.output out.new) (E.output err.old) (E.output err.new) result }

@@ -1,43 +1,42 @@
 //! Whether a dump has an image.
 ghost use Rattle.std.specs.Prelude.{◌≡◌};
 ghost use Rattle.inspect_commands.specs.Ends.{Ends, Writes};
-ghost use Rattle.inspect_commands.specs.Texts.{IsVerdict, NeverStops, verdict_status};
+ghost use Rattle.inspect_commands.specs.Texts.{IsVerdict, NeverStops, verdict_ending};
 
-use crate::ending::{Stopped, end};
+use crate::ending::end;
 use image_digest::write_verdict;
-use rom_commands::Status;
+use rom_commands::Ending;
 use rom_fields::ByteWrite;
 
-/// The status of a comparison.
-fn verdict_status(found: Option<usize>) -> Status
-    ensures { result ≡ verdict_status found }
+/// The ending of a comparison.
+fn verdict_ending(found: Option<usize>) -> Ending<'static>
+    ensures { result ≡ verdict_ending found }
 {
     match found {
-        None => Status::Done,
-        Some(_) => Status::Refused,
+        None => Ending::Done,
+        Some(_) => Ending::Warned,
     }
 }
 
 /// Writes the line of a comparison.
-fn write_one<W: ByteWrite>(size: usize, found: Option<usize>, w: &mut W) -> Result<Status, Stopped>
+fn write_one<W: ByteWrite>(size: usize, found: Option<usize>, w: &mut W) -> Ending<'static>
     ensures { Writes (IsVerdict size found) NeverStops (W.output w.old) (W.output w.new) result }
 {
-    let status = verdict_status(found);
     match write_verdict(size, found, w) {
-        Ok(()) => Ok(status),
-        Err(_) => Err(Stopped::WriteFault),
+        Ok(()) => verdict_ending(found),
+        Err(_) => Ending::WriteFault,
     }
 }
 
 /// Prints to `out` whether a dump has an image of `size` bytes, `ok SIZE`, or `differ OFFSET` with
-/// the offset of the first byte that it has not, and flushes it. The status is `Done`, or `Refused`
-/// if the dump differs. It is `Failed`, and `err` says so, if a write or the flush failed.
+/// the offset of the first byte that it has not, and flushes it. Returns `Done`, or `Warned` if the
+/// dump differs; or `WriteFault` if a write or the flush failed, and `err` says so.
 pub fn print_verdict<W: ByteWrite, E: ByteWrite>(
     size: usize,
     found: Option<usize>,
     out: &mut W,
     err: &mut E,
-) -> Status
+) -> Ending<'static>
     ensures { Ends (IsVerdict size found) NeverStops (W.output out.old) (W.output out.new)
         (E.output err.old) (E.output err.new) result }
 {

@@ -16,7 +16,7 @@ use Rattle.image_check.specs.declared.any.AnyImage.TheVariants.{Romfs, Cramfs as
 use Rattle.image_check.specs.Any.{any_view}
 use Rattle.image_info.specs.Volumes.{romfs_volume}
 use Rattle.linux_misreads.specs.Readers.{romfs_device, cramfs_device, romfs_finds}
-use Rattle.linux_misreads.specs.Tables.{is_other_file, view}
+use Rattle.linux_misreads.specs.Tables.{is_other_file, romfs_view, view}
 use Rattle.linux_misreads.specs.Differences.{is_other_device, is_cut_link, is_cut_name}
 use Rattle.linux_misreads.specs.Differences.{is_read_elsewhere, is_root_missed, is_not_found}
 use Rattle.linux_misreads.specs.Differences.{is_other_root}
@@ -77,15 +77,15 @@ abbrev pub cramfs_name : Cramfs → List Name → Name → List ℕ
 cramfs_name s ns n =
     block_line n
     ++ (table_line s ns n
-    ++ (device_line (cramfs_device (order_in s) s.all.now (ino_of n.node)) n
-    ++ (found_line s n ++ (link_line s.all.now n ++ root_line n))))
+    ++ (device_line (cramfs_device (order_in s) (view s).bytes (ino_of n.node)) n
+    ++ (found_line s n ++ (link_line (view s).bytes n ++ root_line n))))
 
 abbrev pub romfs_name : RomfsImage → Name → List ℕ
 romfs_name s n =
     cut_line n
     ++ (long_line n
-    ++ (device_line (romfs_device s.all.now (ino_of n.node)) n
-    ++ (link_line s.all.now n ++ place_line s.all.now n)))
+    ++ (device_line (romfs_device (romfs_view s).bytes (ino_of n.node)) n
+    ++ (link_line (romfs_view s).bytes n ++ place_line (romfs_view s).bytes n)))
 
 -- the lines of a name of this image
 abbrev pub name_misreads : AnyImage → Name → List ℕ
@@ -95,7 +95,7 @@ name_misreads (InCramfs s) n = cramfs_name s (names (view s).tree) n
 -- romfs uses an offset within the volume's name for the root
 abbrev pub volume_misreads : AnyImage → List ℕ
 volume_misreads (Romfs s) =
-    if is_root_missed (romfs_volume s.all.now) then codes "linux 5 Volume /\n" else []
+    if is_root_missed (romfs_volume (romfs_view s).bytes) then codes "linux 5 Volume /\n" else []
 volume_misreads (InCramfs s) = []
 
 -- the line of the volume, and those of all names in preorder

@@ -34,7 +34,7 @@ has_table x = (is_regular x || is_link x) && nat_lt 0 (length (places_of x))
 
 -- the number in Linux of the node of this inode
 abbrev pub number_in : Cramfs → ℕ → ℕ
-number_in s n = file_number (order_in s) s.all.now n
+number_in s n = file_number (order_in s) (view s).bytes n
 
 -- the facts that are kept of a node
 abbrev pub known_of : Node → Known

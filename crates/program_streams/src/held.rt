@@ -64,13 +64,6 @@ impl<X> Held<X> {
         }
     }
 
-    /// Returns the bytes that are held back.
-    pub fn held(&self) -> &[u8]
-        ensures { result.now ≡ held_back self.now }
-    {
-        self.held.as_slice()
-    }
-
     /// Returns the writer behind it, and the bytes that were held back.
     pub fn into_parts(self) -> (X, Vec<u8>)
         ensures inner { result.0 ≡ held_inner self }

@@ -68,9 +68,7 @@ fn line_is_whole_after_a_failure(rt: HostRuntime) -> Result<(), Fail> {
     let mut held = Held::new(rt.alloc(), Troubled::new(Vec::new(rt.alloc())));
     assert_eq!(rt; held.write(b"ab").ok(), Some(2));
     assert_eq!(rt; held.write(b"cde").ok(), Some(3));
-    assert_eq!(rt; held.held(), b"abcde".as_slice());
     assert_eq!(rt; kind_of(held.flush()), Some(ErrorKind::BrokenPipe));
-    assert_eq!(rt; held.held(), b"cde".as_slice());
     assert_eq!(rt; kind_of(held.flush()), None);
     let (writer, rest) = held.into_parts();
     assert_eq!(rt; writer.inner.as_slice(), b"abcde".as_slice());

@@ -1,5 +1,6 @@
 -- How a serving ended, from what the server and the writer of a fault's line say.
 use Rattle.std.proofs.Common.{◌≡◌, ℕ, ◌^◌, List, length, Result, Ok, Err, OnOk, refl, sym, subst, inl, inr}
+use Rattle.std.proofs.Common.{Option, Some, None}
 use Rattle.std.specs.Prelude.{IfOk, IfErr}
 use Rattle.rom_fields.specs.declared.bytes.Failed.{Failed}
 use Rattle.rom_fields.specs.Failures.{Rose, Counts, one_more}
@@ -21,12 +22,17 @@ use Rattle.rom_commands.specs.declared.serving.Serving.{Serving}
 use Rattle.rom_commands.specs.declared.serving.Serving.TheVariants.{Served, Refused, Memory, ReadFault, WriteFault}
 use Rattle.rom_commands.specs.declared.serving.Serving.TheVariants.{TooManyReads}
 use Rattle.rom_commands.specs.Lines.{fault_line}
-use Rattle.rom_commands.specs.Refused.{EndsUnserved, IsFirst}
+use Rattle.rom_commands.specs.Refused.{EndsAnswered, EndsUnserved, IsFirst, fault_at}
 use Rattle.rom_commands.specs.declared.several.NoImage.{NoImage}
 use Rattle.rom_commands.specs.declared.several.NoImage.TheVariants as none
-use Rattle.rom_commands.specs.Answers.{IsFaultTextUnder}
+use Rattle.rom_commands.specs.Answers.{IsFaultTextUnder, IsFaultText, HasFault, WritesFault}
+use Rattle.rom_commands.specs.Endings.{line_of}
+use Rattle.rom_commands.specs.declared.ending.Ending.{Ending}
+use Rattle.rom_commands.specs.declared.ending.Ending.TheVariants as ending
+use Rattle.rom_faults.specs.declared.fault.Fault.{Fault}
 use Rattle.rom_commands.specs.Serving.{Input, EndsServed, EndsRefused, Reports, CheckedEnds, ServingEndsUnder, HoldAll}
-use Rattle.rom_commands.specs.Serving.{IsFirstFaultText, SpaceEnds, fault_in_line, serving_of, refusal_of}
+use Rattle.rom_commands.specs.Serving.{IsFirstFaultText, HasFirstFault, SpaceEnds, ServingEnds, serving_of, refusal_of}
+use Rattle.rom_commands.specs.Serving.{EndsAs, ImageEnds, ImagesEnd, IsFaultIn, IsFaultOf, ending_of}
 
 -- lines were answered
 pub answers_by : {S : Type 0} (m : Machine S) (s : S) (r₀ r : Input) (w₀ w : Output) (q : Result (Unit {0}) ServeError)
@@ -105,19 +111,83 @@ under_by limits bytes (Err (check.Fault number at)) r₀ r w₀ w o shows clean 
 under_by limits bytes (Err check.OutOfMemory) r₀ r w₀ w o shows clean refused least ends =
     inr (unserved (IsFaultTextUnder limits bytes) r₀ r w₀ w o ends.0 ends.1 ends.2)
 
+-- the answering of lines, as the program ends
+pub answered_by : (Did : Serving → Type 0) (Had : Fault → Option ℕ → Type 0) (q : Result (Unit {0}) ServeError)
+    (o : Ending) → o ≡ ending_of q → Did (serving_of q) → EndsAs Did Had o
+answered_by Did Had (Ok _) o e h = subst (λ (v : Ending). EndsAs Did Had v) (sym e) h
+answered_by Did Had (Err serve.ReadFault) o e h = subst (λ (v : Ending). EndsAs Did Had v) (sym e) h
+answered_by Did Had (Err serve.WriteFault) o e h = subst (λ (v : Ending). EndsAs Did Had v) (sym e) h
+answered_by Did Had (Err serve.TooManyReads) o e h = subst (λ (v : Ending). EndsAs Did Had v) (sym e) h
+
+-- what is so in each ending
+pub each_so : (Did Done' : Serving → Type 0) (Had Had' : Fault → Option ℕ → Type 0) → ((s : Serving) → Did s → Done' s)
+    → ((f : Fault) (i : Option ℕ) → Had f i → Had' f i) → (o : Ending) → EndsAs Did Had o → EndsAs Done' Had' o
+each_so Did Done' Had Had' f k ending.Done h = f Served h
+each_so Did Done' Had Had' f k ending.Warned h = absurd h
+each_so Did Done' Had Had' f k (ending.Fault fault image) h = k fault image h
+each_so Did Done' Had Had' f k (ending.NoFile e) h = absurd h
+each_so Did Done' Had Had' f k ending.Usage h = absurd h
+each_so Did Done' Had Had' f k ending.Memory h = f Memory h
+each_so Did Done' Had Had' f k ending.ReadFault h = f ReadFault h
+each_so Did Done' Had Had' f k ending.WriteFault h = f WriteFault h
+each_so Did Done' Had Had' f k ending.TooManyReads h = f TooManyReads h
+each_so Did Done' Had Had' f k (ending.File name) h = absurd h
+each_so Did Done' Had Had' f k ending.Changed h = absurd h
+each_so Did Done' Had Had' f k ending.LongPath h = absurd h
+each_so Did Done' Had Had' f k ending.LongVolume h = absurd h
+
+-- the line of a fault was written in place of replies
+pub fault_by : (Did : Serving → Type 0) (Had : Fault → Option ℕ → Type 0) (IsText : List ℕ → Type 0) (fault : Fault)
+    (image : Option ℕ) (r : Input) (w₀ w : Output) (o : Ending) → IsText (line_of (ending.Fault fault image))
+    → (EndsRefused IsText r r w₀ w WriteFault → Did WriteFault) → Had fault image
+    → WritesFault (ending.Fault fault image) w₀ w o
+    → EndsAs Did (λ f i. Had f i × Reports (line_of (ending.Fault f i)) r r w₀ w Refused) o
+fault_by Did Had IsText fault image r w₀ w o is f h (inl t) =
+    let All : Ending → Type 0 =
+    λ v. EndsAs Did (λ f i. Had f i × Reports (line_of (ending.Fault f i)) r r w₀ w Refused) v in
+    subst All (sym t.0) (h, (refl, t.1, t.2, t.3))
+fault_by Did Had IsText fault image r w₀ w o is f h (inr t) =
+    let All : Ending → Type 0 =
+    λ v. EndsAs Did (λ f i. Had f i × Reports (line_of (ending.Fault f i)) r r w₀ w Refused) v in
+    subst All (sym t.0) (f (refl, (line_of (ending.Fault fault image), is, t.1), t.2))
+
+-- the fault of bytes that are one image
+pub image_fault : (bytes : List ℕ) (fault : Fault) (r : Input) (w₀ w : Output) (o : Ending)
+    → HasFault bytes fault.number fault.at → WritesFault (ending.Fault fault None) w₀ w o
+    → ImageEnds bytes r r w₀ w o
+image_fault bytes fault r w₀ w o h t =
+    let is : IsFaultText bytes (line_of (ending.Fault fault None)) =
+    record { number = fault.number; at = fault.at; fault = h; same = refl } in
+    fault_by (λ s. ServingEnds bytes r r w₀ w s) (λ f i. IsFaultOf bytes f i) (IsFaultText bytes) fault None r w₀ w o is
+    inr h t
+
+-- the first fault of several
+pub images_fault : (all : List (List ℕ)) (fault : Fault) (image : ℕ) (r : Input) (w₀ w : Output) (o : Ending)
+    → HasFirstFault all fault.number fault.at image → WritesFault (ending.Fault fault (Some image)) w₀ w o
+    → ImagesEnd all r r w₀ w o
+images_fault all fault image r w₀ w o h t =
+    let is : IsFirstFaultText all (line_of (ending.Fault fault (Some image))) =
+    record { number = fault.number; at = fault.at; image = image; first = h; same = refl } in
+    fault_by (λ s. SpaceEnds all r r w₀ w s) (λ f i. IsFaultIn all f i) (IsFirstFaultText all) fault (Some image) r w₀ w
+    o is inr h t
+
 -- what a serving did by what the checks of several images answered, it did of the bytes that were checked
 pub all_by : {V : Type 0} (images : V → List Image) (all : List (List ℕ)) (q : Result V NoImage) (r₀ r : Input)
     (w₀ w : Output)
-    (o : Serving) → IfOk q (λ v. HoldAll all (images v)) → IfErr q (IsFirst all)
-    → IfOk q (λ v. EndsServed (space_machine (images v)) (no_sessions 64) r₀ r w₀ w o)
-    → IfErr q (λ e. EndsUnserved e r₀ r w₀ w o) → SpaceEnds all r₀ r w₀ w o
-all_by images all (Ok v) r₀ r w₀ w o held first served unserved_by = inl (images v, held, served)
+    (o : Ending) → IfOk q (λ v. HoldAll all (images v)) → IfErr q (IsFirst all)
+    → IfOk q (λ v. EndsAnswered (space_machine (images v)) (no_sessions 64) r₀ r w₀ w o)
+    → IfErr q (λ e. EndsUnserved e r₀ r w₀ w o) → ImagesEnd all r₀ r w₀ w o
+all_by images all (Ok v) r₀ r w₀ w o held first served unserved_by =
+    each_so (λ s. EndsServed (space_machine (images v)) (no_sessions 64) r₀ r w₀ w s) (λ s. SpaceEnds all r₀ r w₀ w s)
+    (λ f i. ⊥)
+    (λ f i. IsFaultIn all f i × Reports (line_of (ending.Fault f i)) r₀ r w₀ w Refused)
+    (λ s h. inl (images v, held, h)) (λ f i h. absurd h) o served
 all_by images all (Err (none.Fault number at image)) r₀ r w₀ w o held first served unserved_by =
-    let is : IsFirstFaultText all (fault_in_line number at image) =
-    record { number = number; at = at; image = image; first = first; same = refl } in
-    inr (reported (IsFirstFaultText all) (fault_in_line number at image) r₀ r w₀ w o is unserved_by)
+    let P : Input → Type 0 = λ v. ImagesEnd all r₀ v w₀ w o in
+    subst P (sym unserved_by.0) (images_fault all (fault_at number at) image r₀ w₀ w o first unserved_by.1)
 all_by images all (Err none.OutOfMemory) r₀ r w₀ w o held first served unserved_by =
-    inr (unserved (IsFirstFaultText all) r₀ r w₀ w o unserved_by.0 unserved_by.1 unserved_by.2)
+    let P : Ending → Type 0 = λ v. ImagesEnd all r₀ r w₀ w v in
+    subst P (sym unserved_by.0) (inr (unserved_by.1, unserved_by.2))
 
 -- what follows of what is so of an answer that was accepted
 pub ok_by : {T E : Type 0} (q : Result T E) (P Q : T → Type 0) → ((v : T) → P v → Q v) → IfOk q P → IfOk q Q

@@ -1,5 +1,5 @@
 -- What is printed of an image, from what its check found.
-use Rattle.std.proofs.Common.{◌≡◌, ℕ, Bool, List, Err, length, refl, sym, ap, ◌∙◌, ◌++◌, subst, inr}
+use Rattle.std.proofs.Common.{◌≡◌, ℕ, Bool, List, Err, length, refl, sym, ap, ◌∙◌, ◌++◌, subst}
 use Rattle.rom_faults.specs.declared.error.CheckError.TheVariants.{Fault}
 use Rattle.rom_tree.specs.declared.types.Limits.{Limits}
 use Rattle.image_check.specs.declared.any.AnyImage.{AnyImage}
@@ -14,11 +14,8 @@ use Rattle.image_info.specs.Endings.{WritesAll}
 use Rattle.image_info.specs.declared.info.InfoError.{InfoError}
 use Rattle.image_info.specs.declared.info.InfoError.TheVariants.{OutOfMemory, WriteFault}
 use Rattle.rom_commands.specs.declared.asked.Asked.{Asked}
-use Rattle.rom_commands.specs.Lines.{fault_line}
-use Rattle.rom_commands.specs.Asked.{sound_text, takes_fault, warns, Fits}
-use Rattle.rom_commands.specs.Answers.{Ends, FaultEnds, Holds, IsSoundText, IsFaultText, HasFault, usual_limits}
-use Rattle.rom_commands.specs.declared.shown.Outcome.{Outcome}
-use Rattle.rom_commands.specs.declared.shown.Outcome.TheVariants as outcome
+use Rattle.rom_commands.specs.Asked.{sound_text, warns, Fits}
+use Rattle.rom_commands.specs.Answers.{Holds, IsSoundText, HasFault, usual_limits}
 
 -- limits of these numbers are the usual ones
 pub usual : (l : Limits) → l.references ≡ 1048576 → l.depth ≡ 64 → l ≡ usual_limits
@@ -62,34 +59,11 @@ fault_of bytes l number at e h k =
     let Q : Limits → Type 0 = λ v. IsLeastFaultUnder bytes v (Fault number at) in
     record { refused = subst P e h; least = subst Q e k }
 
--- what is printed of an image with a fault
-pub faulty : (bytes : List ℕ) (l : Limits) (number at : ℕ) → l ≡ usual_limits → IsRefused bytes l (Fault number at)
-    → IsLeastFaultUnder bytes l (Fault number at) → IsFaultText bytes (fault_line number at)
-faulty bytes l number at e h k =
-    record { number = number; at = at; fault = fault_of bytes l number at e h k; same = refl }
-
 -- a failure with nothing to tell is one with something to tell
 pub failed_as_well : (old new : Output) (text : List ℕ) (e : InfoError) → WritesAll {T = Unit {0}} old new text (Err e)
     → WritesAll {T = Bool} old new text (Err e)
 failed_as_well old new text OutOfMemory h = h
 failed_as_well old new text WriteFault h = h
-
--- how the showing of a fault ends, it ends of the bytes that have the fault
-pub fault_ends : (bytes : List ℕ) (number at : ℕ) (asked : Asked) (old new : Output) (o : Outcome)
-    → HasFault bytes number at → FaultEnds number at asked old new o → Ends bytes asked old new o
-fault_ends bytes number at asked old new outcome.Done h f = absurd f
-fault_ends bytes number at asked old new outcome.Warned h f = absurd f
-fault_ends bytes number at asked old new outcome.Refused h f =
-    let is : IsFaultText bytes (fault_line number at) = record { number = number; at = at; fault = h; same = refl } in
-    (fault_line number at, (is, f.0), f.1, f.2)
-fault_ends bytes number at asked old new (outcome.Faulty n offset) h f =
-    let P : ℕ → Type 0 = λ v. HasFault bytes v offset in
-    let Q : ℕ → Type 0 = λ v. HasFault bytes number v in
-    (subst P (sym f.0) (subst Q (sym f.1) h), f.2, f.3)
-fault_ends bytes number at asked old new outcome.Memory h f = absurd f
-fault_ends bytes number at asked old new outcome.WriteFault h f =
-    let is : IsFaultText bytes (fault_line number at) = record { number = number; at = at; fault = h; same = refl } in
-    (fault_line number at, inr (is, f.0), f.1, f.2)
 
 -- a failure of a front is one of the whole
 pub failed_front : (old new : Output) (s t : List ℕ) (e : InfoError) → WritesAll {T = Unit {0}} old new s (Err e)

@@ -1,5 +1,5 @@
 -- What is printed of an image, and how the printing ends. (This project's own.)
-use Rattle.std.specs.Prelude.{◌≡◌, ◌<◌, ℕ, ◌⊎◌, Bool, true, false, List, [], codes}
+use Rattle.std.specs.Prelude.{◌≡◌, ◌<◌, ℕ, ◌⊎◌, Bool, true, false, List, None}
 use Rattle.std.specs.Io.KnownBytes.{Appends}
 use Rattle.rom_fields.specs.Failures.{Rose, one_more}
 use Rattle.rom_fields.specs.Written.{AppendsPrefix, Output, Puts, sink}
@@ -13,11 +13,9 @@ use Rattle.rom_commands.specs.declared.asked.Asked.{Asked}
 use Rattle.image_check.specs.declared.any.AnyImage.{AnyImage}
 use Rattle.image_check.specs.Any.{any_view, report_of}
 use Rattle.image_check.specs.Checked.{Shows, IsRefused, HasFormat, IsFaultless, IsLeastFaultUnder}
-use Rattle.rom_commands.specs.declared.status.Status.{Status}
-use Rattle.rom_commands.specs.declared.status.Status.TheVariants as status
-use Rattle.rom_commands.specs.declared.shown.Outcome.{Outcome}
-use Rattle.rom_commands.specs.declared.shown.Outcome.TheVariants.{Done, Warned, Refused, Faulty}
-use Rattle.rom_commands.specs.declared.shown.Outcome.TheVariants.{Memory, WriteFault}
+use Rattle.rom_commands.specs.declared.ending.Ending.{Ending}
+use Rattle.rom_commands.specs.declared.ending.Ending.TheVariants as ending
+use Rattle.rom_commands.specs.Endings.{line_of}
 
 -- 1,048,576 references, and 64 names on the way to an entry
 abbrev pub usual_limits : Limits
@@ -68,75 +66,79 @@ pub record IsFaultTextUnder (limits : Limits) (bytes text : List ℕ) : Type 0 w
 abbrev pub IsFaultText : (bytes text : List ℕ) → Type 0
 IsFaultText bytes text = IsFaultTextUnder usual_limits bytes text
 
--- what was written of the image with these bytes, in each ending
-abbrev pub Ends : List ℕ → Asked → Output → Output → Outcome → Type 0
-Ends bytes asked old new Done =
+-- the line was written, if it belongs there; otherwise nothing was written
+abbrev pub IsWrittenIf : Bool → List ℕ → Output → Output → Type 0
+IsWrittenIf true line old new =
+    Appends old.contents new.contents line × (new.failures ≡ old.failures)
+IsWrittenIf false line old new = new ≡ old
+
+-- What was written of the image with these bytes, in each ending. The fault of an ending is the
+-- least fault of these bytes.
+abbrev pub Ends : List ℕ → Asked → Output → Output → Ending → Type 0
+Ends bytes asked old new ending.Done =
     (text : List ℕ) × IsSoundText asked bytes text false
     × Appends old.contents new.contents text × (new.failures ≡ old.failures)
-Ends bytes asked old new Warned =
+Ends bytes asked old new ending.Warned =
     (text : List ℕ) × IsSoundText asked bytes text true
     × Appends old.contents new.contents text × (new.failures ≡ old.failures)
-Ends bytes asked old new Refused =
-    (text : List ℕ) × (IsFaultText bytes text × (takes_fault asked ≡ true))
-    × Appends old.contents new.contents text × (new.failures ≡ old.failures)
-Ends bytes asked old new (Faulty number at) =
-    HasFault bytes number at × (takes_fault asked ≡ false) × (new ≡ old)
-Ends bytes asked old new Memory = new ≡ old
-Ends bytes asked old new WriteFault =
+Ends bytes asked old new (ending.Fault fault None) =
+    HasFault bytes fault.number fault.at
+    × IsWrittenIf (takes_fault asked) (line_of (ending.Fault fault None)) old new
+Ends bytes asked old new ending.Memory = new ≡ old
+Ends bytes asked old new ending.WriteFault =
     (text : List ℕ)
     × (IsTextOf bytes asked text ⊎ (IsFaultText bytes text × (takes_fault asked ≡ true)))
     × AppendsPrefix old.contents new.contents text × Rose old.failures new.failures
+Ends bytes asked old new _ = ⊥
 
--- the status with which the program ends
-abbrev pub status_of : Outcome → Status
-status_of Done = status.Done
-status_of Warned = status.Refused
-status_of Refused = status.Refused
-status_of (Faulty number at) = status.Refused
-status_of Memory = status.Failed
-status_of WriteFault = status.Failed
+-- whether the output has a text, of which a part may be held back
+abbrev pub has_text : Ending → Bool → Bool
+has_text ending.Done takes = true
+has_text ending.Warned takes = true
+has_text ending.WriteFault takes = true
+has_text (ending.Fault fault image) takes = takes
+has_text _ takes = false
 
 -- the text was put into a writer, or a prefix of it if a write failed
 abbrev pub Prints : Output → Output → List ℕ → Type 0
 Prints old new text = (failed : Bool) × Puts (sink old false) (sink new failed) text
 
--- one flush passed on what was held back, and the status stays; or a write failed, which is
+-- one flush passed on what was held back, and the ending stays; or a write failed, which is
 -- reported
-abbrev pub Flushes : Output → Output → Output → Output → Status → Status → Type 0
+abbrev pub Flushes : Output → Output → Output → Output → Ending → Ending → Type 0
 Flushes old new err err' given result =
-    ((0 < new.failures) × (result ≡ status.Failed) × Prints err err' (codes "write fault\n"))
+    ((0 < new.failures) × (result ≡ ending.WriteFault)
+    × Prints err err' (line_of ending.WriteFault))
     ⊎ ((old.failures ≡ 0) × (new.failures ≡ 0) × (result ≡ given) × (err' ≡ err)
     × (new.flushes ≡ one_more old.flushes))
 
--- a flush succeeded, if the outcome says that a whole text was written
-abbrev pub IsHandedOn : Output → Outcome → Type 0
-IsHandedOn new Done = 0 < new.flushes
-IsHandedOn new Warned = 0 < new.flushes
-IsHandedOn new Refused = 0 < new.flushes
-IsHandedOn new (Faulty number at) = Unit {0}
-IsHandedOn new Memory = Unit {0}
-IsHandedOn new WriteFault = Unit {0}
+-- a text is flushed; otherwise the ending is reported
+abbrev pub Closes : Bool → Output → Output → Output → Output → Ending → Ending → Type 0
+Closes true old new err err' given result = Flushes old new err err' given result
+Closes false old new err err' given result =
+    (new ≡ old) × (result ≡ given) × Prints err err' (line_of given)
 
--- what standard error has in each ending
-abbrev pub complaint_of : Outcome → List ℕ
-complaint_of Done = []
-complaint_of Warned = []
-complaint_of Refused = []
-complaint_of (Faulty number at) = fault_line number at
-complaint_of Memory = codes "memory\n"
-complaint_of WriteFault = codes "write fault\n"
+-- a flush succeeded, if the ending says that a whole text was written
+abbrev pub IsHandedOn : Ending → Bool → Output → Type 0
+IsHandedOn ending.Done takes new = 0 < new.flushes
+IsHandedOn ending.Warned takes new = 0 < new.flushes
+IsHandedOn (ending.Fault fault image) true new = 0 < new.flushes
+IsHandedOn _ takes new = Unit {0}
 
 -- The line of this fault was written in place of what was asked, if it belongs there. Otherwise
--- nothing was written, and standard error has the line.
-abbrev pub FaultEnds : ℕ → ℕ → Asked → Output → Output → Outcome → Type 0
-FaultEnds n at asked old new Done = ⊥
-FaultEnds n at asked old new Warned = ⊥
-FaultEnds n at asked old new Refused =
-    (takes_fault asked ≡ true) × Appends old.contents new.contents (fault_line n at)
-    × (new.failures ≡ old.failures)
-FaultEnds n at asked old new (Faulty number offset) =
-    (number ≡ n) × (offset ≡ at) × (takes_fault asked ≡ false) × (new ≡ old)
-FaultEnds n at asked old new Memory = ⊥
-FaultEnds n at asked old new WriteFault =
-    (takes_fault asked ≡ true) × AppendsPrefix old.contents new.contents (fault_line n at)
-    × Rose old.failures new.failures
+-- nothing was written.
+abbrev pub ShowsFault : Bool → Ending → Output → Output → Ending → Type 0
+ShowsFault true fault old new result =
+    ((result ≡ fault) × Appends old.contents new.contents (line_of fault)
+    × (new.failures ≡ old.failures))
+    ⊎ ((result ≡ ending.WriteFault) × AppendsPrefix old.contents new.contents (line_of fault)
+    × Rose old.failures new.failures)
+ShowsFault false fault old new result = (result ≡ fault) × (new ≡ old)
+
+-- the line of this fault was written and flushed once, or a write failed
+abbrev pub WritesFault : Ending → Output → Output → Ending → Type 0
+WritesFault fault old new result =
+    ((result ≡ fault) × Appends old.contents new.contents (line_of fault)
+    × (new.failures ≡ old.failures) × (new.flushes ≡ one_more old.flushes))
+    ⊎ ((result ≡ ending.WriteFault) × AppendsPrefix old.contents new.contents (line_of fault)
+    × Rose old.failures new.failures)

@@ -12,6 +12,10 @@ fault_text n at =
 unfoldable pub fault_line : ℕ → ℕ → List ℕ
 fault_line n at = fault_text n at ++ codes "\n"
 
+-- fault NUMBER NAME at OFFSET in IMAGE, and a line feed
+unfoldable pub fault_in_line : ℕ → ℕ → ℕ → List ℕ
+fault_in_line n at image = fault_text n at ++ (codes " in " ++ (decimal image ++ codes "\n"))
+
 -- ok FORMAT REFERENCES DEPTH, and a line feed
 unfoldable pub ok_line : List ℕ → ℕ → ℕ → List ℕ
 ok_line format references depth =

@@ -1,6 +1,6 @@
 -- What serving images reads and writes, and how it ends: the lines of a reader are answered from
 -- the trees that the bytes hold. (This project's own.)
-use Rattle.std.specs.Prelude.{◌≡◌, ℕ, ◌^◌, ◌⊎◌, List, [], ◌∷◌, ◌++◌, length, codes, decimal, Option}
+use Rattle.std.specs.Prelude.{◌≡◌, ℕ, ◌^◌, ◌⊎◌, List, [], ◌∷◌, ◌++◌, length, Option, Some, None}
 use Rattle.std.specs.Prelude.{Result, Ok, Err}
 use Rattle.std.specs.Io.KnownBytes.{Appends}
 use Rattle.rom_fields.specs.declared.bytes.Failed.{Failed}
@@ -8,6 +8,7 @@ use Rattle.rom_fields.specs.Failures.{Rose, one_more}
 use Rattle.rom_fields.specs.Written.{AppendsPrefix, Output}
 use Rattle.rom_faults.specs.declared.error.CheckError.{CheckError}
 use Rattle.rom_faults.specs.declared.error.CheckError.TheVariants as check
+use Rattle.rom_faults.specs.declared.fault.Fault.{Fault}
 use Rattle.rom_tree.specs.Image.{Image}
 use Rattle.rom_tree.specs.declared.types.Limits.{Limits}
 use Rattle.image_check.specs.Any.{any_view}
@@ -18,11 +19,12 @@ use Rattle.serve_lines.specs.Served.{Machine, Serves, Finishes, Breaks}
 use Rattle.serve_lines.specs.declared.error.ServeError.{ServeError}
 use Rattle.serve_lines.specs.declared.error.ServeError.TheVariants as serve
 use Rattle.rom_serve.specs.Machines.{image_machine, space_machine}
-use Rattle.rom_commands.specs.Lines.{fault_line, fault_text}
-use Rattle.rom_commands.specs.Answers.{Holds, HoldsUnder, HasFault, IsFaultTextUnder, Prints}
+use Rattle.rom_commands.specs.Lines.{fault_line, fault_in_line}
+use Rattle.rom_commands.specs.Answers.{Holds, HoldsUnder, HasFault, IsFaultTextUnder}
 use Rattle.rom_commands.specs.Answers.{usual_limits}
-use Rattle.rom_commands.specs.declared.status.Status.{Status}
-use Rattle.rom_commands.specs.declared.status.Status.TheVariants as status
+use Rattle.rom_commands.specs.Endings.{line_of}
+use Rattle.rom_commands.specs.declared.ending.Ending.{Ending}
+use Rattle.rom_commands.specs.declared.ending.Ending.TheVariants as ending
 use Rattle.rom_commands.specs.declared.serving.Serving.{Serving}
 use Rattle.rom_commands.specs.declared.serving.Serving.TheVariants.{Served, Refused, Memory}
 use Rattle.rom_commands.specs.declared.serving.Serving.TheVariants.{ReadFault, WriteFault}
@@ -37,13 +39,20 @@ pub record Input : Type 0 where
 abbrev pub input_of : Option (List ℕ) → ℕ → Input
 input_of remaining failures = record { remaining = remaining; failures = failures }
 
--- how the answering of lines ended, and how the writing of a fault's line ended
+-- how the answering of lines ended, for the program and for its callers
+abbrev pub ending_of : Result (Unit {0}) ServeError → Ending
+ending_of (Ok _) = ending.Done
+ending_of (Err serve.ReadFault) = ending.ReadFault
+ending_of (Err serve.WriteFault) = ending.WriteFault
+ending_of (Err serve.TooManyReads) = ending.TooManyReads
+
 abbrev pub serving_of : Result (Unit {0}) ServeError → Serving
 serving_of (Ok _) = Served
 serving_of (Err serve.ReadFault) = ReadFault
 serving_of (Err serve.WriteFault) = WriteFault
 serving_of (Err serve.TooManyReads) = TooManyReads
 
+-- how the writing of a fault's line ended
 abbrev pub refusal_of : Result (Unit {0}) Failed → Serving
 refusal_of (Ok _) = Refused
 refusal_of (Err _) = WriteFault
@@ -92,22 +101,6 @@ Reports text r₀ r w₀ w Served = ⊥
 Reports text r₀ r w₀ w ReadFault = ⊥
 Reports text r₀ r w₀ w TooManyReads = ⊥
 
--- The writing of a fault's line ended in this way, and the status says so. If it failed, standard
--- error says so as well.
-abbrev pub Says : Result (Unit {0}) Failed → Output → Output → Status → Type 0
-Says (Ok _) err err' result = (result ≡ status.Refused) × Prints err err' []
-Says (Err _) err err' result = (result ≡ status.Failed) × Prints err err' (codes "write fault\n")
-
--- The line of a fault was written and flushed once, and the status says so; or a write failed,
--- which is reported.
-abbrev pub ReportsFault : List ℕ → Output → Output → Output → Output → Status → Type 0
-ReportsFault text w₀ w err err' result =
-    ((result ≡ status.Refused) × Appends w₀.contents w.contents text × (w.failures ≡ w₀.failures)
-    × (w.flushes ≡ one_more w₀.flushes) × Prints err err' [])
-    ⊎ ((result ≡ status.Failed) × AppendsPrefix w₀.contents w.contents text
-    × Rose w₀.failures w.failures
-    × Prints err err' (codes "write fault\n"))
-
 -- What serving does after the check of the image. If the image is accepted, lines are answered from
 -- it, with nothing open at first. If it has a fault, the fault's line is written. If memory was
 -- refused to the check, nothing is done.
@@ -138,10 +131,6 @@ HoldAll (b ∷ bs) (m ∷ ms) = Holds b m × HoldAll bs ms
 HoldAll [] (m ∷ ms) = ⊥
 HoldAll (b ∷ bs) [] = ⊥
 
--- fault NUMBER NAME at OFFSET in IMAGE, and a line feed
-unfoldable pub fault_in_line : ℕ → ℕ → ℕ → List ℕ
-fault_in_line n at image = fault_text n at ++ (codes " in " ++ (decimal image ++ codes "\n"))
-
 -- this is the fault of the first of the bytes that hold no image, and they have this number
 pub record HasFirstFault (all : List (List ℕ)) (number at image : ℕ) : Type 0 where
   pub before : List (List ℕ)
@@ -169,20 +158,36 @@ SpaceEnds all r₀ r w₀ w o =
     × EndsServed (space_machine ms) (no_sessions 64) r₀ r w₀ w o)
     ⊎ EndsRefused (IsFirstFaultText all) r₀ r w₀ w o
 
--- the status with which the program ends
-abbrev pub serving_status : Serving → Status
-serving_status Served = status.Done
-serving_status Refused = status.Refused
-serving_status Memory = status.Failed
-serving_status ReadFault = status.Failed
-serving_status WriteFault = status.Failed
-serving_status TooManyReads = status.Failed
+-- Serving as an ending of the program. What was done is so of each way in which serving ended. If
+-- an image has a fault, the ending has it, and what was refused is so of it.
+abbrev pub EndsAs : (Serving → Type 0) → (Fault → Option ℕ → Type 0) → Ending → Type 0
+EndsAs Did Had ending.Done = Did Served
+EndsAs Did Had (ending.Fault fault image) = Had fault image
+EndsAs Did Had ending.Memory = Did Memory
+EndsAs Did Had ending.ReadFault = Did ReadFault
+EndsAs Did Had ending.WriteFault = Did WriteFault
+EndsAs Did Had ending.TooManyReads = Did TooManyReads
+EndsAs Did Had _ = ⊥
 
--- what standard error has in each ending
-abbrev pub serving_complaint : Serving → List ℕ
-serving_complaint Served = []
-serving_complaint Refused = []
-serving_complaint Memory = codes "memory\n"
-serving_complaint ReadFault = codes "read fault\n"
-serving_complaint WriteFault = codes "write fault\n"
-serving_complaint TooManyReads = codes "too many reads\n"
+-- the fault of an ending is that of these bytes, or the first fault of all bytes
+abbrev pub IsFaultOf : List ℕ → Fault → Option ℕ → Type 0
+IsFaultOf bytes fault None = HasFault bytes fault.number fault.at
+IsFaultOf bytes fault (Some image) = ⊥
+
+abbrev pub IsFaultIn : List (List ℕ) → Fault → Option ℕ → Type 0
+IsFaultIn all fault None = ⊥
+IsFaultIn all fault (Some image) = HasFirstFault all fault.number fault.at image
+
+-- an image was served as the program ends, and so were several images: if there is a fault, its
+-- line was written
+abbrev pub ImageEnds : List ℕ → Input → Input → Output → Output → Ending → Type 0
+ImageEnds bytes r₀ r w₀ w o =
+    EndsAs (λ s. ServingEnds bytes r₀ r w₀ w s)
+    (λ fault image. IsFaultOf bytes fault image
+    × Reports (line_of (ending.Fault fault image)) r₀ r w₀ w Refused) o
+
+abbrev pub ImagesEnd : List (List ℕ) → Input → Input → Output → Output → Ending → Type 0
+ImagesEnd all r₀ r w₀ w o =
+    EndsAs (λ s. SpaceEnds all r₀ r w₀ w s)
+    (λ fault image. IsFaultIn all fault image
+    × Reports (line_of (ending.Fault fault image)) r₀ r w₀ w Refused) o

@@ -1,30 +1,24 @@
 //! Serves images to lines, and reports how it ended.
-ghost use Rattle.std.specs.Prelude.{◌≡◌, ◌≤◌, ℕ, List, length, map, false, true, IfOk, OnOk};
-ghost use Rattle.rom_fields.specs.Failures.{Counts, one_more};
-ghost use Rattle.rom_fields.specs.Written.{WritesText};
+ghost use Rattle.std.specs.Prelude.{◌≡◌, ◌≤◌, ℕ, List, None, true, IfOk};
 ghost use Rattle.rom_tree.specs.Tree.{IsShallow};
 ghost use Rattle.image_check.specs.Any.{any_view};
 ghost use Rattle.open_files.specs.Machine.{no_files};
 ghost use Rattle.rom_serve.specs.Machines.{image_machine};
-ghost use Rattle.rom_commands.specs.Lines.{fault_line};
-ghost use Rattle.rom_commands.specs.Answers.{Ends, HasFault, Prints, complaint_of, status_of};
-ghost use Rattle.rom_commands.specs.Serving.{Says, ReportsFault};
 ghost use Rattle.rom_commands.specs.Asked.{takes_fault};
-ghost use Rattle.rom_commands.specs.declared.shown.Outcome.{Outcome};
-ghost use Rattle.rom_commands.specs.declared.status.Status.TheVariants.{Refused as refused_status};
-ghost use Rattle.rom_commands.specs.Serving.{input_of, EndsServed, CheckedEnds, serving_of};
-ghost use Rattle.rom_commands.specs.Serving.{refusal_of, ServingEnds, ServingEndsUnder};
-ghost use Rattle.rom_commands.specs.Serving.{serving_status, serving_complaint};
+ghost use Rattle.rom_commands.specs.Answers.{Ends, HasFault, Prints, WritesFault};
+ghost use Rattle.rom_commands.specs.Endings.{complaint_of};
+ghost use Rattle.rom_commands.specs.Serving.{input_of, EndsServed, CheckedEnds, ImageEnds};
+ghost use Rattle.rom_commands.specs.Serving.{ending_of, serving_of, refusal_of};
+ghost use Rattle.rom_commands.specs.Serving.{ServingEnds, ServingEndsUnder};
+ghost use Rattle.rom_commands.specs.declared.ending.Ending.TheVariants.{Fault as FaultEnding};
 
 use crate::asked::Asked;
-use crate::fault::put_fault;
-use crate::printing::complain;
-use crate::shown::{takes_fault, write_fault_line};
-use crate::status::Status;
+use crate::ending::{Ending, conclude, report, write_and_flush, write_fault};
+use crate::shown::takes_fault;
 use image_check::{AnyImage, check};
 use lookups::Indexed;
 use rom_faults::{CheckError, Fault};
-use rom_fields::{ByteRead, ByteWrite, Failed, put};
+use rom_fields::{ByteRead, ByteWrite, Failed};
 use rom_serve::{Cached, NoCache, ServeError, serve};
 use rom_tree::Limits;
 use std::alloc::Global;
@@ -49,34 +43,20 @@ pub enum Serving {
     TooManyReads,
 }
 
-/// The status with which the program ends.
-fn status(serving: Serving) -> Status
-    ensures { result ≡ serving_status serving }
+/// How the answering of lines ended, for the program.
+pub(crate) fn answered(served: Result<(), ServeError>) -> Ending<'static>
+    ensures { result ≡ ending_of served }
 {
-    match serving {
-        Serving::Served => Status::Done,
-        Serving::Refused => Status::Refused,
-        Serving::Memory | Serving::ReadFault | Serving::WriteFault | Serving::TooManyReads => {
-            Status::Failed
-        }
-    }
-}
-
-/// What standard error says of an ending.
-fn complaint(serving: Serving) -> &'static [u8]
-    ensures { result.now ≡ serving_complaint serving }
-{
-    match serving {
-        Serving::Served | Serving::Refused => b"",
-        Serving::Memory => b"memory\n",
-        Serving::ReadFault => b"read fault\n",
-        Serving::WriteFault => b"write fault\n",
-        Serving::TooManyReads => b"too many reads\n",
+    match served {
+        Ok(()) => Ending::Done,
+        Err(ServeError::ReadFault) => Ending::ReadFault,
+        Err(ServeError::WriteFault) => Ending::WriteFault,
+        Err(ServeError::TooManyReads) => Ending::TooManyReads,
     }
 }
 
 /// How the answering of lines ended.
-pub(crate) fn ended(served: Result<(), ServeError>) -> Serving
+fn ended(served: Result<(), ServeError>) -> Serving
     ensures { result ≡ serving_of served }
 {
     match served {
@@ -88,7 +68,7 @@ pub(crate) fn ended(served: Result<(), ServeError>) -> Serving
 }
 
 /// How the writing of a fault's line ended.
-pub(crate) fn refused(written: Result<(), Failed>) -> Serving
+fn refused(written: Result<(), Failed>) -> Serving
     ensures { result ≡ refusal_of written }
 {
     match written {
@@ -97,65 +77,30 @@ pub(crate) fn refused(written: Result<(), Failed>) -> Serving
     }
 }
 
-/// Writes the line of a fault, and flushes it.
-fn report_fault<W: ByteWrite>(w: &mut W, number: u32, at: u32) -> Result<(), Failed>
-    ensures text { WritesText (W.output w.old).contents (W.output w.new).contents result
-        (fault_line number at) }
-    ensures count { Counts (W.output w.old).failures (W.output w.new).failures result }
-    ensures flushed { OnOk result ((W.output w.new).flushes ≡ one_more (W.output w.old).flushes) }
-{
-    write_fault_line(w, number, at)?;
-    w.flush()
-}
-
-/// Ends the report of a fault. If a write failed, `err` says so.
-pub(crate) fn reported<E: ByteWrite>(written: Result<(), Failed>, err: &mut E) -> Status
-    ensures { Says written (E.output err.old) (E.output err.new) result }
-{
-    match written {
-        Ok(()) => Status::Refused,
-        Err(Failed) => {
-            complain(err, b"write fault", b"");
-            Status::Failed
-        }
-    }
-}
-
-/// Prints to `err` which fault an image has, and returns the status of a refusal.
-pub fn complain_of_fault<E: ByteWrite>(fault: Fault, err: &mut E) -> Status
-    ensures said { Prints (E.output err.old) (E.output err.new)
-        (fault_line fault.number fault.at) }
-    ensures status { result ≡ refused_status }
-{
-    let mut failed = false;
-    put_fault(err, &mut failed, fault.number, fault.at);
-    put(err, &mut failed, b"\n");
-    Status::Refused
-}
-
-/// Writes the line of a file's fault, and returns the status. The line goes to `w` if `takes_fault`
-/// says so, and to `err` otherwise. `print` does the same with bytes that have this fault, and so
-/// does `serve_on` if a report is asked for. So nothing more has to be read of a file if its first
-/// bytes show the fault.
+/// Writes the line of a file's fault, and returns the fault; or `WriteFault` if a write failed, and
+/// `err` says so. The line goes to `w` if `takes_fault` says so, and to `err` otherwise. `print`
+/// does the same with bytes that have this fault, and so does `serve_on` if a report is asked for.
+/// So nothing more has to be read of a file if its first bytes show the fault.
 pub fn refuse<W: ByteWrite, E: ByteWrite>(
     fault: Fault,
     asked: Asked,
     w: &mut W,
     err: &mut E,
-) -> Status
+) -> Ending<'static>
     ensures reports { takes_fault asked ≡ true
-        → ReportsFault (fault_line fault.number fault.at) (W.output w.old) (W.output w.new)
-        (E.output err.old) (E.output err.new) result }
+        → WritesFault (FaultEnding fault None) (W.output w.old) (W.output w.new) result }
     ensures ends { (bytes : List ℕ) → HasFault bytes fault.number fault.at
-        → (o : Outcome) × (result ≡ status_of o)
-        × Ends bytes asked (W.output w.old) (W.output w.new) o
-        × Prints (E.output err.old) (E.output err.new) (complaint_of o) }
+        → Ends bytes asked (W.output w.old) (W.output w.new) result }
+    ensures said { Prints (E.output err.old) (E.output err.new)
+        (complaint_of result (takes_fault asked)) }
 {
     if takes_fault(asked) {
-        let written = report_fault(w, fault.number, fault.at);
-        reported(written, err)
+        let ending = write_fault(w, fault, None);
+        conclude(ending, err)
     } else {
-        complain_of_fault(fault, err)
+        let ending = Ending::Fault { fault, image: None };
+        report(ending, err);
+        ending
     }
 }
 
@@ -166,16 +111,16 @@ fn answer_lines<'a, R: ByteRead, W: ByteWrite>(
     image: AnyImage<'a>,
     r: &mut R,
     w: &mut W,
-) -> Serving
+) -> Result<(), ServeError>
     requires { IsShallow (any_view image).tree }
     ensures { EndsServed (image_machine (any_view image.entry)) (no_files 64)
         (input_of (R.remaining r.old) (R.failures r.old))
         (input_of (R.remaining r.new) (R.failures r.new))
-        (W.output w.old) (W.output w.new) result }
+        (W.output w.old) (W.output w.new) (serving_of result) }
 {
     match Cached::new(alloc, Indexed::new(alloc, image), NAMES) {
-        Ok(cached) => ended(serve(cached, r, w)),
-        Err(NoCache { image }) => ended(serve(image, r, w)),
+        Ok(cached) => serve(cached, r, w),
+        Err(NoCache { image }) => serve(image, r, w),
     }
 }
 
@@ -195,8 +140,14 @@ pub fn serve_checked<'a, R: ByteRead, W: ByteWrite>(
         (W.output w.old) (W.output w.new) result }
 {
     match checked {
-        Ok(image) => answer_lines(alloc, image, r, w),
-        Err(CheckError::Fault { number, at }) => refused(report_fault(w, number, at)),
+        Ok(image) => ended(answer_lines(alloc, image, r, w)),
+        Err(CheckError::Fault { number, at }) => refused(write_and_flush(
+            w,
+            Ending::Fault {
+                fault: Fault { number, at },
+                image: None,
+            },
+        )),
         Err(CheckError::OutOfMemory) => Serving::Memory,
     }
 }
@@ -239,33 +190,41 @@ pub fn serve_image<R: ByteRead, W: ByteWrite>(
     serve_under(alloc, bytes, Limits::usual(), r, w)
 }
 
-/// Prints to `err` how serving ended, if it failed, and returns the status.
-pub(crate) fn conclude<E: ByteWrite>(serving: Serving, err: &mut E) -> Status
-    ensures value { result ≡ serving_status serving }
-    ensures said { Prints (E.output err.old) (E.output err.new) (serving_complaint serving) }
+/// Serves an image as `serve_image` does. The ending has the image's fault, if there is one.
+fn serve_one<R: ByteRead, W: ByteWrite>(
+    alloc: Global,
+    bytes: &[u8],
+    r: &mut R,
+    w: &mut W,
+) -> Ending<'static>
+    ensures { ImageEnds bytes.now
+        (input_of (R.remaining r.old) (R.failures r.old))
+        (input_of (R.remaining r.new) (R.failures r.new))
+        (W.output w.old) (W.output w.new) result }
 {
-    let mut failed = false;
-    put(err, &mut failed, complaint(serving));
-    status(serving)
+    match check(alloc, bytes, Limits::usual()) {
+        Ok(image) => answered(answer_lines(alloc, image, r, w)),
+        Err(CheckError::Fault { number, at }) => write_fault(w, Fault { number, at }, None),
+        Err(CheckError::OutOfMemory) => Ending::Memory,
+    }
 }
 
-/// Serves an image as `serve_image` does, prints to `err` what went wrong, and returns the status:
-/// `Done` if all replies were written, `Refused` if the image has a fault, `Failed` if memory was
-/// refused or a stream failed.
-pub fn serve_on<R: ByteRead, W: ByteWrite, E: ByteWrite>(
+/// Serves an image as `serve_image` does, and prints to `err` what went wrong. Returns `Done` if
+/// all replies were written; `Fault` with the image's least fault if it has one; `Memory` if memory
+/// was refused; `ReadFault`, `WriteFault` or `TooManyReads` if a stream failed.
+pub fn serve_on<'e, R: ByteRead, W: ByteWrite, E: ByteWrite>(
     alloc: Global,
     bytes: &[u8],
     r: &mut R,
     w: &mut W,
     err: &mut E,
-) -> Status
-    ensures ends { (o : Serving) × (result ≡ serving_status o)
-        × ServingEnds bytes.now
+) -> Ending<'e>
+    ensures ends { ImageEnds bytes.now
         (input_of (R.remaining r.old) (R.failures r.old))
         (input_of (R.remaining r.new) (R.failures r.new))
-        (W.output w.old) (W.output w.new) o
-        × Prints (E.output err.old) (E.output err.new) (serving_complaint o) }
+        (W.output w.old) (W.output w.new) result }
+    ensures said { Prints (E.output err.old) (E.output err.new) (complaint_of result true) }
 {
-    let serving = serve_image(alloc, bytes, r, w);
-    conclude(serving, err)
+    let ending = serve_one(alloc, bytes, r, w);
+    conclude(ending, err)
 }

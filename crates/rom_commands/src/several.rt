@@ -1,26 +1,22 @@
 //! Serves several images to the lines of sessions.
-ghost use Rattle.std.specs.Prelude.{◌≡◌, ◌≤◌, ◌<◌, ℕ, List, length, map, IfOk, IfErr, OnOk};
-ghost use Rattle.rom_fields.specs.Failures.{Counts, one_more};
-ghost use Rattle.rom_fields.specs.Written.{WritesText};
+ghost use Rattle.std.specs.Prelude.{◌≡◌, ◌≤◌, ◌<◌, ℕ, List, Some, length, map, true, IfOk, IfErr};
 ghost use Rattle.path_walk.specs.Graft.{AreShallow};
 ghost use Rattle.image_check.specs.Any.{any_view};
 ghost use Rattle.rom_tree.specs.Tree.{IsShallow};
-ghost use Rattle.rom_commands.specs.Answers.{Holds, Prints};
-ghost use Rattle.rom_commands.specs.Serving.{input_of, fault_in_line, HoldAll, SpaceEnds};
-ghost use Rattle.rom_commands.specs.Serving.{serving_status, serving_complaint};
 ghost use Rattle.open_files.specs.Sessions.{no_sessions};
 ghost use Rattle.rom_serve.specs.Machines.{space_machine};
-ghost use Rattle.rom_commands.specs.Serving.{EndsServed, HasFirstFault, Input, ReportsFault};
-ghost use Rattle.rom_commands.specs.declared.serving.Serving.{Serving};
-ghost use Rattle.rom_commands.specs.Refused.{EndsUnserved, IsFaultAt, IsFirst};
+ghost use Rattle.rom_commands.specs.Answers.{Holds, Prints, WritesFault};
+ghost use Rattle.rom_commands.specs.Endings.{complaint_of};
+ghost use Rattle.rom_commands.specs.Serving.{input_of, HasFirstFault, HoldAll, ImagesEnd, Input};
+ghost use Rattle.rom_commands.specs.Refused.{EndsAnswered, EndsUnserved, IsFaultAt, IsFirst};
+ghost use Rattle.rom_commands.specs.declared.ending.Ending.TheVariants.{Fault as FaultEnding};
 
-use crate::fault::put_fault;
-use crate::serving::{Serving, conclude, ended, refused, reported};
-use crate::status::Status;
+use crate::ending::{Ending, conclude, write_fault};
+use crate::serving::answered;
 use image_check::{AnyImage, check};
 use lookups::Indexed;
 use rom_faults::{CheckError, Fault};
-use rom_fields::{ByteRead, ByteWrite, Failed, put, put_decimal};
+use rom_fields::{ByteRead, ByteWrite};
 use rom_serve::serve_space;
 use rom_tree::Limits;
 use std::alloc::Global;
@@ -81,55 +77,24 @@ fn check_all<'a>(
     Ok(images)
 }
 
-/// Writes the line of the fault of one of several images.
-fn write_fault_in_line<W: ByteWrite>(
-    w: &mut W,
-    number: u32,
-    at: u32,
-    image: u32,
-) -> Result<(), Failed>
-    ensures text { WritesText (W.output w.old).contents (W.output w.new).contents result
-        (fault_in_line number at image) }
-    ensures count { Counts (W.output w.old).failures (W.output w.new).failures result }
-    ensures unflushed { (W.output w.new).flushes ≡ (W.output w.old).flushes }
-{
-    let mut failed = false;
-    put_fault(w, &mut failed, number, at);
-    put(w, &mut failed, b" in ");
-    put_decimal(w, &mut failed, image);
-    put(w, &mut failed, b"\n");
-    if failed { Err(Failed) } else { Ok(()) }
-}
-
-/// Writes the line of the fault of one of several images, and flushes it.
-fn report_fault_in<W: ByteWrite>(w: &mut W, number: u32, at: u32, image: u32) -> Result<(), Failed>
-    ensures text { WritesText (W.output w.old).contents (W.output w.new).contents result
-        (fault_in_line number at image) }
-    ensures count { Counts (W.output w.old).failures (W.output w.new).failures result }
-    ensures flushed { OnOk result ((W.output w.new).flushes ≡ one_more (W.output w.old).flushes) }
-{
-    write_fault_in_line(w, number, at, image)?;
-    w.flush()
-}
-
 /// Writes to `w` the line of the fault of the first of several files that has one, and returns the
-/// status. `serve_several_on` does the same with bytes whose first fault is this.
+/// fault; or `WriteFault` if a write failed, and `err` says so. `serve_several_on` does the same
+/// with bytes whose first fault is this.
 pub fn refuse_in<W: ByteWrite, E: ByteWrite>(
     fault: Fault,
     image: u32,
     w: &mut W,
     err: &mut E,
-) -> Status
-    ensures reports { ReportsFault (fault_in_line fault.number fault.at image) (W.output w.old)
-        (W.output w.new) (E.output err.old) (E.output err.new) result }
+) -> Ending<'static>
+    ensures reports { WritesFault (FaultEnding fault (Some image)) (W.output w.old)
+        (W.output w.new) result }
     ensures ends { (all : List (List ℕ)) (r : Input)
         → HasFirstFault all fault.number fault.at image
-        → (o : Serving) × (result ≡ serving_status o)
-        × SpaceEnds all r r (W.output w.old) (W.output w.new) o
-        × Prints (E.output err.old) (E.output err.new) (serving_complaint o) }
+        → ImagesEnd all r r (W.output w.old) (W.output w.new) result }
+    ensures said { Prints (E.output err.old) (E.output err.new) (complaint_of result true) }
 {
-    let written = report_fault_in(w, fault.number, fault.at, image);
-    reported(written, err)
+    let ending = write_fault(w, fault, Some(image));
+    conclude(ending, err)
 }
 
 /// Serves several images after their checks. If all were accepted, answers the lines of `r` from
@@ -139,12 +104,12 @@ fn serve_all_checked<'a, R: ByteRead, W: ByteWrite>(
     checked: Result<Vec<Indexed<'a, AnyImage<'a>>>, NoImage>,
     r: &mut R,
     w: &mut W,
-) -> Serving
+) -> Ending<'static>
     requires some { IfOk checked (λ v. 0 < length (map (λ x. any_view x.image) v.items)) }
     requires few { IfOk checked (λ v. length (map (λ x. any_view x.image) v.items) ≤ 8) }
     requires shallow { IfOk checked (λ v. AreShallow (map (λ x. any_view x.image) v.items)) }
     ensures served { IfOk checked.entry (λ v.
-        EndsServed (space_machine (map (λ x. any_view x.image) v.items)) (no_sessions 64)
+        EndsAnswered (space_machine (map (λ x. any_view x.image) v.items)) (no_sessions 64)
         (input_of (R.remaining r.old) (R.failures r.old))
         (input_of (R.remaining r.new) (R.failures r.new))
         (W.output w.old) (W.output w.new) result) }
@@ -154,9 +119,11 @@ fn serve_all_checked<'a, R: ByteRead, W: ByteWrite>(
         (W.output w.old) (W.output w.new) result) }
 {
     match checked {
-        Ok(images) => ended(serve_space(images, r, w)),
-        Err(NoImage::Fault { number, at, image }) => refused(report_fault_in(w, number, at, image)),
-        Err(NoImage::OutOfMemory) => Serving::Memory,
+        Ok(images) => answered(serve_space(images, r, w)),
+        Err(NoImage::Fault { number, at, image }) => {
+            write_fault(w, Fault { number, at }, Some(image))
+        }
+        Err(NoImage::OutOfMemory) => Ending::Memory,
     }
 }
 
@@ -164,15 +131,19 @@ fn serve_all_checked<'a, R: ByteRead, W: ByteWrite>(
 /// `w`, as `rom_serve::serve_space` does. If an image has a fault, writes the line of the first
 /// such image's fault, with the image's number. Names are sorted as in `serving::serve_image`;
 /// there is no cache of look-ups.
+///
+/// Returns `Done` if all replies were written; `Fault` with the first fault and the number of its
+/// image if there is one; `Memory` if memory was refused; `ReadFault`, `WriteFault` or
+/// `TooManyReads` if a stream failed.
 pub fn serve_images<R: ByteRead, W: ByteWrite>(
     alloc: Global,
     files: &[Vec<u8>],
     r: &mut R,
     w: &mut W,
-) -> Serving
+) -> Ending<'static>
     requires some { 0 < length files.now }
     requires few { length files.now ≤ 8 }
-    ensures { SpaceEnds (map (λ f. f.items) files.now)
+    ensures { ImagesEnd (map (λ f. f.items) files.now)
         (input_of (R.remaining r.old) (R.failures r.old))
         (input_of (R.remaining r.new) (R.failures r.new))
         (W.output w.old) (W.output w.new) result }
@@ -181,24 +152,23 @@ pub fn serve_images<R: ByteRead, W: ByteWrite>(
     serve_all_checked(checked, r, w)
 }
 
-/// Serves several images as `serve_images` does, prints to `err` what went wrong, and returns the
-/// status, as `serving::serve_on` does.
-pub fn serve_several_on<R: ByteRead, W: ByteWrite, E: ByteWrite>(
+/// Serves several images as `serve_images` does, prints to `err` what went wrong, and returns how
+/// it ended.
+pub fn serve_several_on<'e, R: ByteRead, W: ByteWrite, E: ByteWrite>(
     alloc: Global,
     files: &[Vec<u8>],
     r: &mut R,
     w: &mut W,
     err: &mut E,
-) -> Status
+) -> Ending<'e>
     requires some { 0 < length files.now }
     requires few { length files.now ≤ 8 }
-    ensures ends { (o : Serving) × (result ≡ serving_status o)
-        × SpaceEnds (map (λ f. f.items) files.now)
+    ensures ends { ImagesEnd (map (λ f. f.items) files.now)
         (input_of (R.remaining r.old) (R.failures r.old))
         (input_of (R.remaining r.new) (R.failures r.new))
-        (W.output w.old) (W.output w.new) o
-        × Prints (E.output err.old) (E.output err.new) (serving_complaint o) }
+        (W.output w.old) (W.output w.new) result }
+    ensures said { Prints (E.output err.old) (E.output err.new) (complaint_of result true) }
 {
-    let serving = serve_images(alloc, files, r, w);
-    conclude(serving, err)
+    let ending = serve_images(alloc, files, r, w);
+    conclude(ending, err)
 }

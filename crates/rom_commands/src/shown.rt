@@ -1,5 +1,5 @@
 //! What is printed of an image.
-ghost use Rattle.std.specs.Prelude.{◌≡◌, ◌≤◌, ◌↔◌, ◌++◌, false, length, not, IfOk, IsTrue};
+ghost use Rattle.std.specs.Prelude.{◌≡◌, ◌≤◌, ◌↔◌, ◌++◌, false, length, not, None, IfOk, IsTrue};
 ghost use Rattle.rom_fields.specs.Failures.{Counts};
 ghost use Rattle.rom_fields.specs.Written.{WritesText};
 ghost use Rattle.rom_tree.specs.Tree.{IsShallow};
@@ -8,45 +8,22 @@ ghost use Rattle.image_info.specs.Info.{info_text};
 ghost use Rattle.formats.specs.Format.{name_of};
 ghost use Rattle.image_check.specs.Any.{any_view, image_format, report_of};
 ghost use Rattle.image_info.specs.Gaps.{IsChecked};
-ghost use Rattle.rom_commands.specs.Lines.{fault_line, ok_line};
+ghost use Rattle.rom_commands.specs.Lines.{ok_line};
 ghost use Rattle.rom_commands.specs.Asked.{sound_text, takes_fault, warns, Fits};
-ghost use Rattle.rom_commands.specs.Answers.{Ends, FaultEnds};
+ghost use Rattle.rom_commands.specs.Answers.{Ends, ShowsFault};
 ghost use Rattle.rom_commands.specs.Room.{fits, room_text};
-ghost use Rattle.rom_commands.specs.declared.shown.Outcome.{Outcome};
+ghost use Rattle.rom_commands.specs.declared.ending.Ending.TheVariants.{Fault as FaultEnding};
 
 use crate::asked::Asked;
-use crate::fault::put_fault;
+use crate::ending::{Ending, write_line};
 use crate::room::{free_bytes, image_size, write_room};
 use image_check::{AnyImage, check};
 use image_info::{InfoError, map, write_info};
 use linux_misreads::misreads;
-use rom_faults::CheckError;
+use rom_faults::{CheckError, Fault};
 use rom_fields::{ByteWrite, Failed, put, put_decimal};
 use rom_tree::{Limits, Report, list};
 use std::alloc::Global;
-
-/// How the printing of an image ended.
-#[derive(Clone, Copy, PartialEq, Eq)]
-pub enum Outcome {
-    /// The image is valid, and all of its text was written.
-    Done,
-    /// The image is valid, and all of its text was written. It has something that Linux misreads
-    /// and that was asked for, or it does not fit.
-    Warned,
-    /// The image has a fault, whose line was written.
-    Refused,
-    /// The image has a fault, whose line belongs on standard error. Nothing was written.
-    Faulty {
-        /// The fault's number.
-        number: u32,
-        /// Its offset.
-        at: u32,
-    },
-    /// Memory was refused, and nothing was written.
-    Memory,
-    /// A write failed. A prefix of the text was written.
-    WriteFault,
-}
 
 /// Returns whether each byte of an image of this length has an address of 64 bits, if addresses are
 /// asked for.
@@ -68,19 +45,6 @@ pub fn takes_fault(asked: Asked) -> bool
         Asked::Report | Asked::List => true,
         Asked::Map(_) | Asked::Misreads | Asked::Facts(_) | Asked::Fit { .. } => false,
     }
-}
-
-/// Writes the line of a fault.
-pub(crate) fn write_fault_line<W: ByteWrite>(w: &mut W, number: u32, at: u32) -> Result<(), Failed>
-    ensures text { WritesText (W.output w.old).contents (W.output w.new).contents result
-        (fault_line number at) }
-    ensures count { Counts (W.output w.old).failures (W.output w.new).failures result }
-    ensures unflushed { (W.output w.new).flushes ≡ (W.output w.old).flushes }
-{
-    let mut failed = false;
-    put_fault(w, &mut failed, number, at);
-    put(w, &mut failed, b"\n");
-    if failed { Err(Failed) } else { Ok(()) }
 }
 
 /// The name of an image's format.
@@ -182,37 +146,35 @@ fn write_sound<W: ByteWrite>(
 }
 
 /// Writes the line of a fault if it belongs in place of what is asked.
-fn show_fault<W: ByteWrite>(asked: Asked, number: u32, at: u32, w: &mut W) -> Outcome
-    ensures { FaultEnds number at asked (W.output w.old) (W.output w.new) result }
+fn show_fault<W: ByteWrite>(fault: Fault, asked: Asked, w: &mut W) -> Ending<'static>
+    ensures { ShowsFault (takes_fault asked) (FaultEnding fault None) (W.output w.old)
+        (W.output w.new) result }
 {
-    if !takes_fault(asked) {
-        return Outcome::Faulty { number, at };
-    }
-    match write_fault_line(w, number, at) {
-        Ok(()) => Outcome::Refused,
-        Err(_) => Outcome::WriteFault,
+    let ending = Ending::Fault { fault, image: None };
+    if takes_fault(asked) {
+        match write_line(w, ending) {
+            Ok(()) => ending,
+            Err(_) => Ending::WriteFault,
+        }
+    } else {
+        ending
     }
 }
 
 /// Checks an image under the usual limits, and writes what is asked of it. If the image has a
-/// fault, writes the line of the fault, or nothing, as `takes_fault` says.
-pub fn show<W: ByteWrite>(alloc: Global, bytes: &[u8], asked: Asked, w: &mut W) -> Outcome
+/// fault, writes the line of the fault, or nothing, as `takes_fault` says. Returns `Done`,
+/// `Warned`, `Fault`, `Memory` or `WriteFault`.
+pub fn show<W: ByteWrite>(alloc: Global, bytes: &[u8], asked: Asked, w: &mut W) -> Ending<'static>
     requires { Fits asked (length bytes.now) }
     ensures { Ends bytes.now asked (W.output w.old) (W.output w.new) result }
 {
     match check(alloc, bytes, Limits::usual()) {
         Ok(image) => match write_sound(alloc, &image, asked, w) {
-            Ok(warned) => {
-                if warned {
-                    Outcome::Warned
-                } else {
-                    Outcome::Done
-                }
-            }
-            Err(InfoError::OutOfMemory) => Outcome::Memory,
-            Err(InfoError::WriteFault) => Outcome::WriteFault,
+            Ok(warned) => { if warned { Ending::Warned } else { Ending::Done } }
+            Err(InfoError::OutOfMemory) => Ending::Memory,
+            Err(InfoError::WriteFault) => Ending::WriteFault,
         },
-        Err(CheckError::Fault { number, at }) => show_fault(asked, number, at, w),
-        Err(CheckError::OutOfMemory) => Outcome::Memory,
+        Err(CheckError::Fault { number, at }) => show_fault(Fault { number, at }, asked, w),
+        Err(CheckError::OutOfMemory) => Ending::Memory,
     }
 }

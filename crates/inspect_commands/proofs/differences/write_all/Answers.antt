@@ -1,15 +1,22 @@
-use Rattle.std.proofs.Common.{[], ap, inl, inr, refl, ◌∙◌, List, ℕ}
+use Rattle.std.proofs.Common.{◌≡◌, [], ap, inl, inr, refl, sym, subst, ◌∙◌, List, ℕ}
+use Rattle.std.specs.Prelude.{◌⊎◌}
 use Rattle.rom_tree.specs.Image.{Image}
 use Rattle.image_diff.specs.Diff.{is_printed, names_lines}
-use Rattle.inspect_commands.specs.Texts.{printed_status}
-use Rattle.inspect_commands.proofs.Closed.{nothing}
+use Rattle.rom_commands.specs.declared.ending.Ending.{Ending}
+use Rattle.rom_commands.specs.declared.ending.Ending.TheVariants.{Done, Warned}
+use Rattle.inspect_commands.specs.Texts.{IsDiff, StopsDiff, printed_ending}
+use Rattle.inspect_commands.proofs.Closed.{by_printed, nothing, whole_written}
 use Rattle.inspect_commands.proofs.differences.write_all.Goals as goal
 
 pub returns-in-Ok : goal.returns-in-Ok
 returns-in-Ok g c =
     let a : Image = g.T.Viewed.image c.args.old.now in
     let b : Image = g.T.Viewed.image c.args.new.now in
-    let d = c.in-Ok.ensures in (
+    let d = c.in-Ok.ensures in
+    let P : Ending → Type 0 = λ o. (o ≡ Done) ⊎ (o ≡ Warned) in
+    whole_written (IsDiff c.args.places a b) (StopsDiff a b) (g.W.ByteWrite.output c.args.w.now)
+    (g.W.ByteWrite.output c.write_diff.new.w) c.printed_ending.result
+    (subst P (sym c.printed_ending.ensures) (by_printed c.in-Ok.printed)) (
       names_lines c.args.places a.bytes b.bytes d.old_names d.new_names,
       record {
         old_names = d.old_names;
@@ -17,7 +24,7 @@ returns-in-Ok g c =
         old_sorted = d.old_sorted;
         new_sorted = d.new_sorted;
         same = refl;
-        status = c.printed_status.ensures ∙ ap printed_status d.lines.2;
+        ends = c.printed_ending.ensures ∙ ap printed_ending d.lines.2;
       },
       d.lines.0,
       d.lines.1,
@@ -43,14 +50,14 @@ returns-in-Err-WriteFault g c =
     let text : List ℕ = names_lines c.args.places a.bytes b.bytes d.old_names d.new_names in (
       text,
       (
-        printed_status (is_printed text),
+        printed_ending (is_printed text),
         record {
           old_names = d.old_names;
           new_names = d.new_names;
           old_sorted = d.old_sorted;
           new_sorted = d.new_sorted;
           same = refl;
-          status = refl;
+          ends = refl;
         },
       ),
       d.lines.0,

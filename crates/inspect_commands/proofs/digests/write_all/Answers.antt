@@ -1,7 +1,7 @@
 use Rattle.std.proofs.Common.{refl}
 use Rattle.rom_tree.specs.Image.{Image}
 use Rattle.image_digest.specs.Digests.{digest_text}
-use Rattle.rom_commands.specs.declared.status.Status.TheVariants.{Done}
+use Rattle.rom_commands.specs.declared.ending.Ending.TheVariants.{Done}
 use Rattle.inspect_commands.proofs.digests.write_all.Goals as goal
 
 pub returns-in-Ok : goal.returns-in-Ok

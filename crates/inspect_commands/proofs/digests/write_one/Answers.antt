@@ -1,6 +1,6 @@
 use Rattle.std.proofs.Common.{refl}
 use Rattle.image_digest.specs.Digests.{input_line}
-use Rattle.rom_commands.specs.declared.status.Status.TheVariants.{Done}
+use Rattle.rom_commands.specs.declared.ending.Ending.TheVariants.{Done}
 use Rattle.inspect_commands.proofs.digests.write_one.Goals as goal
 
 pub returns-in-Ok : goal.returns-in-Ok

@@ -1,7 +1,7 @@
 use Rattle.std.proofs.Common.{[], refl}
 use Rattle.rom_fields.proofs.Joins.{appends_none}
 use Rattle.image_extents.specs.Lines.{extents_text}
-use Rattle.rom_commands.specs.declared.status.Status.TheVariants.{Done}
+use Rattle.rom_commands.specs.declared.ending.Ending.TheVariants.{Done}
 use Rattle.inspect_commands.proofs.flash.write_all.Goals as goal
 
 pub returns-in_default : goal.returns-in_default
@@ -11,7 +11,7 @@ returns-in_default g c =
 pub returns-in-Ok-write_extents : goal.returns-in-Ok-write_extents
 returns-in-Ok-write_extents g c = (
   extents_text c.args.base c.args.file c.in-Ok.found,
-  record { found = c.in-Ok.found; are = c.in-Ok.ensures; same = refl; status = refl },
+  record { found = c.in-Ok.found; are = c.in-Ok.ensures; same = refl; ends = refl },
   c.in-Ok-write_extents.ensures.text,
   c.in-Ok-write_extents.ensures.count,
 )
@@ -19,7 +19,7 @@ returns-in-Ok-write_extents g c = (
 pub returns : goal.returns
 returns g c = (
   extents_text c.args.base c.args.file c.in-Ok.found,
-  (Done, record { found = c.in-Ok.found; are = c.in-Ok.ensures; same = refl; status = refl }),
+  (Done, record { found = c.in-Ok.found; are = c.in-Ok.ensures; same = refl; ends = refl }),
   c.in-Err.ensures.text,
   c.in-Err.ensures.count,
 )

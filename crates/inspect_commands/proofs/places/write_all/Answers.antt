@@ -1,6 +1,11 @@
 use Rattle.std.proofs.Common.{[], refl, ap, ◌∙◌}
 use Rattle.rom_fields.proofs.Joins.{appends_none}
-use Rattle.inspect_commands.specs.Texts.{are_inside, places_status, places_text}
+use Rattle.std.proofs.Common.{sym, subst, ◌≡◌}
+use Rattle.std.specs.Prelude.{◌⊎◌}
+use Rattle.rom_commands.specs.declared.ending.Ending.{Ending}
+use Rattle.rom_commands.specs.declared.ending.Ending.TheVariants.{Done, Warned}
+use Rattle.inspect_commands.specs.Texts.{IsPlaces, StopsOfMemory, are_inside, places_ending, places_text}
+use Rattle.inspect_commands.proofs.Closed.{by_places, whole_written}
 use Rattle.inspect_commands.proofs.Lines.{are_apart, in_order}
 use Rattle.inspect_commands.proofs.places.write_all.Goals as goal
 
@@ -15,24 +20,28 @@ write_lines-requires g c = record {
 }
 
 pub returns-in-Ok-write_lines : goal.returns-in-Ok-write_lines
-returns-in-Ok-write_lines g c = (
-  places_text c.args.base c.args.file c.in-Ok.found c.args.addresses.now,
-  record {
-    found = c.in-Ok.found;
-    are = c.in-Ok.ensures;
-    same = refl;
-    status = c.places_status.ensures ∙ ap places_status c.in-Ok-write_lines.ensures.inside;
-  },
-  c.in-Ok-write_lines.ensures.text,
-  c.in-Ok-write_lines.ensures.count,
-)
+returns-in-Ok-write_lines g c =
+    let P : Ending → Type 0 = λ o. (o ≡ Done) ⊎ (o ≡ Warned) in
+    whole_written (IsPlaces c.args.image.now c.args.base c.args.file c.args.addresses.now) StopsOfMemory
+    (g.W.ByteWrite.output c.args.w.now) (g.W.ByteWrite.output c.write_lines.new.w) c.places_ending.result
+    (subst P (sym c.places_ending.ensures) (by_places c.in-Ok-write_lines.inside)) (
+      places_text c.args.base c.args.file c.in-Ok.found c.args.addresses.now,
+      record {
+        found = c.in-Ok.found;
+        are = c.in-Ok.ensures;
+        same = refl;
+        ends = c.places_ending.ensures ∙ ap places_ending c.in-Ok-write_lines.ensures.inside;
+      },
+      c.in-Ok-write_lines.ensures.text,
+      c.in-Ok-write_lines.ensures.count,
+    )
 
 pub returns : goal.returns
 returns g c = (
   places_text c.args.base c.args.file c.in-Ok.found c.args.addresses.now,
   (
-    places_status (are_inside c.args.base c.args.file c.in-Ok.found c.args.addresses.now),
-    record { found = c.in-Ok.found; are = c.in-Ok.ensures; same = refl; status = refl },
+    places_ending (are_inside c.args.base c.args.file c.in-Ok.found c.args.addresses.now),
+    record { found = c.in-Ok.found; are = c.in-Ok.ensures; same = refl; ends = refl },
   ),
   c.in-Err.ensures.text,
   c.in-Err.ensures.count,

@@ -1,24 +1,32 @@
-use Rattle.std.proofs.Common.{◌≡◌, ℕ, List, refl}
+use Rattle.std.proofs.Common.{◌≡◌, ℕ, List, refl, Some, None}
 use Rattle.rom_fields.specs.Written.{Output}
 use Rattle.image_check.specs.declared.any.AnyImage.{AnyImage}
 use Rattle.image_check.specs.Any.{any_view}
 use Rattle.rom_tree.specs.Image.{Image}
 use Rattle.rom_commands.specs.Answers.{Holds, usual_limits}
 use Rattle.rom_commands.specs.Copying.{Copies, CopyEnds}
-use Rattle.rom_commands.specs.declared.copying.Copied.{Copied}
-use Rattle.rom_commands.specs.declared.copying.Copied.TheVariants.{Done, NoFile as Fileless, Refused, Memory}
-use Rattle.rom_commands.specs.declared.copying.Copied.TheVariants.{WriteFault}
+use Rattle.rom_commands.specs.declared.ending.Ending.{Ending}
+use Rattle.rom_commands.specs.declared.ending.Ending.TheVariants as ending
 use Rattle.rom_commands.proofs.Texts.{usual, held, fault_of}
 use Rattle.rom_commands.proofs.copying.copy.Goals as goal
 
 -- what was copied of the image that the bytes hold
-copied : (bytes path : List ℕ) (m : Image) (old new : Output) (o : Copied) → Holds bytes m → Copies m path old new o
+copied : (bytes path : List ℕ) (m : Image) (old new : Output) (o : Ending) → Holds bytes m → Copies m path old new o
     → CopyEnds bytes path old new o
-copied bytes path m old new Done h c = (m, h, c)
-copied bytes path m old new (Fileless e) h c = (m, h, c)
-copied bytes path m old new (Refused n at) h c = absurd c
-copied bytes path m old new Memory h c = absurd c
-copied bytes path m old new WriteFault h c = (m, h, c)
+copied bytes path m old new ending.Done h c = (m, h, c)
+copied bytes path m old new ending.Warned h c = absurd c
+copied bytes path m old new (ending.Fault fault None) h c = absurd c
+copied bytes path m old new (ending.Fault fault (Some image)) h c = absurd c
+copied bytes path m old new (ending.NoFile e) h c = (m, h, c)
+copied bytes path m old new ending.Usage h c = absurd c
+copied bytes path m old new ending.Memory h c = absurd c
+copied bytes path m old new ending.ReadFault h c = absurd c
+copied bytes path m old new ending.WriteFault h c = (m, h, c)
+copied bytes path m old new ending.TooManyReads h c = absurd c
+copied bytes path m old new (ending.File name) h c = absurd c
+copied bytes path m old new ending.Changed h c = absurd c
+copied bytes path m old new ending.LongPath h c = absurd c
+copied bytes path m old new ending.LongVolume h c = absurd c
 
 pub returns-in-Ok : goal.returns-in-Ok
 returns-in-Ok g c =

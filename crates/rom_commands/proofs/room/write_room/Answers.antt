@@ -1,5 +1,3 @@
-use Rattle.std.proofs.Common.{subst, ℕ, List}
-use Rattle.rom_fields.specs.Written.{Puts}
 use Rattle.rom_fields.proofs.Joins.{chain, said_ok, said_front, said_rose, said_quiet}
 use Rattle.rom_commands.specs.Room.{room_lines}
 use Rattle.rom_commands.proofs.room.write_room.Goals as goal

@@ -3,9 +3,10 @@ use Rattle.rom_fields.specs.Failures.{Rose}
 use Rattle.rom_fields.specs.Written.{AppendsPrefix, Output}
 use Rattle.image_check.specs.declared.any.AnyImage.{AnyImage}
 use Rattle.image_info.proofs.Given.{check_gave}
-use Rattle.rom_commands.specs.Asked.{sound_text, warns}
+use Rattle.rom_commands.specs.Asked.{sound_text, takes_fault, warns}
 use Rattle.rom_commands.specs.Answers.{usual_limits}
-use Rattle.rom_commands.proofs.Texts.{usual, sound, fault_of, fault_ends, shown_fits}
+use Rattle.rom_commands.proofs.Known.{fault_ends}
+use Rattle.rom_commands.proofs.Texts.{usual, sound, fault_of, shown_fits}
 use Rattle.rom_commands.proofs.shown.show.Goals as goal
 
 pub write_sound-requires : goal.write_sound-requires
@@ -64,8 +65,8 @@ returns-in-Err-Fault g c =
     let n : ℕ = c.in-Err-Fault.number in
     let at : ℕ = c.in-Err-Fault.at in
     let e : c.usual.result ≡ usual_limits = usual c.usual.result c.usual.ensures.references c.usual.ensures.depth in
-    fault_ends c.args.bytes.now n at c.args.asked (g.W.ByteWrite.output c.args.w.now)
-    (g.W.ByteWrite.output c.show_fault.new.w) c.show_fault.result
+    fault_ends c.args.bytes.now (record { number = n; at = at }) c.args.asked (takes_fault c.args.asked)
+    (g.W.ByteWrite.output c.args.w.now) (g.W.ByteWrite.output c.show_fault.new.w) c.show_fault.result refl
     (fault_of c.args.bytes.now c.usual.result n at e
     (rw c.in-Err-Fault.field-0-is at c.in-Err-Fault.ensures.fault)
     (rw c.in-Err-Fault.field-0-is at c.in-Err-Fault.ensures.least))

@@ -1,6 +1,5 @@
-use Rattle.std.proofs.Common.{◌∙◌}
 use Rattle.rom_fields.specs.Written.{Output}
-use Rattle.rom_fields.proofs.Joins.{appends_join, front_after, rose_after}
+use Rattle.rom_fields.proofs.Joins.{front_after, rose_after}
 use Rattle.image_info.specs.Info.{info_text}
 use Rattle.rom_commands.specs.Room.{room_text}
 use Rattle.rom_commands.proofs.Texts.{failed_front}
