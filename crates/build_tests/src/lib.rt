@@ -1,13 +1,15 @@
 //! Tests of building that use several crates: the lines, rows and plans of manifests; the bytes of
 //! one image in each format; images that are built in memory, written into a buffer and streamed,
-//! with readers and writers that fail; and manifests that are written. No crate depends on this
-//! one.
+//! with readers and writers that fail; manifests that are written; and an image as a tree that is
+//! extracted. No crate depends on this one.
 #![tactic(auto)]
 
 #[cfg(test)]
 mod commands;
 #[cfg(test)]
 mod cramfs_written;
+#[cfg(test)]
+mod extracted;
 #[cfg(test)]
 mod hello;
 #[cfg(test)]

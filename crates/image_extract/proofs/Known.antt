@@ -1,6 +1,6 @@
 -- The members of an image as the code has them.
 use Rattle.std.proofs.Common.{◌≡◌, ◌≢◌, ℕ, zero, suc, ◌<◌, true, false, List, [], ◌∷◌, ◌++◌, length, take, get_or}
-use Rattle.std.proofs.Common.{Option, map, refl, sym, ap, subst, ◌∙◌, append_assoc, append-nil, arith}
+use Rattle.std.proofs.Common.{Option, Some, map, refl, sym, ap, subst, ◌∙◌, append_assoc, append-nil, arith}
 use Rattle.std.specs.Prelude.{Result, Ok, Err, OnOk}
 use Rattle.std.specs.Io.KnownBytes.{Appends}
 use Rattle.rom_fields.specs.Written.{WritesText}
@@ -8,15 +8,17 @@ use Rattle.rom_tree.specs.Image.{Image, image_node}
 use Rattle.rom_tree.specs.Names.{Name, names, node_names}
 use Rattle.rom_tree.specs.Tree.{IsIn, here, there, nodes, kind_of}
 use Rattle.rom_tree.proofs.Nodes.{node_at-in}
+use Rattle.image_manifest.specs.Composed.{path_by, way_at, ways_of}
+use Rattle.image_manifest.specs.Composed.{path_at as manifest_path}
 use Rattle.image_manifest.specs.declared.naming.Member.{Member}
 use Rattle.image_manifest.specs.Members.{Known, AreMembers, all_behind, known_behind, known_of, members_of}
 use Rattle.image_manifest.proofs.Behind.{as_many}
 use Rattle.image_manifest.proofs.Lined.{names_nodes}
 use Rattle.tree_extract.specs.Extracted.{is_file}
-use Rattle.tree_extract.specs.Members.{Member as Made, kind_at, member_at}
+use Rattle.tree_extract.specs.Members.{Member as Made, kind_at, member_at, path_at}
 use Rattle.tree_extract.specs.declared.tree.Kind.TheVariants.{Symlink, Nothing}
 use Rattle.image_extract.specs.Known.{IsKnown}
-use Rattle.image_extract.specs.Members.{made_of, member_behind, members_in, root_of}
+use Rattle.image_extract.specs.Members.{made_of, member_behind, members_in, node_at, root_of}
 use Rattle.image_extract.proofs.Indexed.{length-members, member_is}
 
 in_at : (ns : List Name) (i : ℕ) (e : Name) → i < length ns → IsIn (get_or ns i e).node (map (λ n. n.node) ns)
@@ -87,6 +89,54 @@ known m ms (suc k) d are h some =
       kind = ap (λ (v : Made). v.kind) at_is ∙ ap (λ (v : Known). made_of (kind_of n.node) v.first) (sym is);
       bytes = ap (λ (v : Made). v.bytes) at_is;
     }
+
+-- ---- the path and the node of any member
+
+first_way : (a b : List ℕ) (xs ys : List (List ℕ)) → a ∷ xs ≡ b ∷ ys → a ≡ b
+first_way a b xs ys is = cc
+
+other_ways : (a b : List ℕ) (xs ys : List (List ℕ)) → a ∷ xs ≡ b ∷ ys → xs ≡ ys
+other_ways a b xs ys is = cc
+
+never_ways : (a : List ℕ) (xs : List (List ℕ)) → a ∷ xs ≡ [] → ⊥
+never_ways a xs is = cc
+
+way_is : (ws : List (List ℕ)) (ns : List Name) (i : ℕ) (e : Name) → map path_by ws ≡ map (λ n. n.path) ns
+    → i < length ns → path_by (way_at ws i) ≡ (get_or ns i e).path
+way_is ws [] i e is h = absurd (omega (arith, h))
+way_is [] (n ∷ ns) i e is h = absurd (never_ways n.path (map (λ (k : Name). k.path) ns) (sym is))
+way_is (w ∷ ws) (n ∷ ns) zero e is h =
+    first_way (path_by w) n.path (map path_by ws) (map (λ (k : Name). k.path) ns) is
+way_is (w ∷ ws) (n ∷ ns) (suc i) e is h =
+    way_is ws ns i e (other_ways (path_by w) n.path (map path_by ws) (map (λ (k : Name). k.path) ns) is)
+    (omega (arith, h))
+
+among_names : (m : Image) (ms : List Member) (i : ℕ) → AreMembers m ms → i < length (members_in m)
+    → i < length (names m.tree)
+unfolding members_of
+among_names m ms i are h =
+    subst (λ (n : ℕ). i < n) (as_many ms (names m.tree) are.known) (is_within m ms i are h)
+
+pub path_known : (m : Image) (ms : List Member) (i : ℕ) → AreMembers m ms → i < length (members_in m)
+    → manifest_path ms i ≡ path_at (members_in m) i
+unfolding names members_in
+path_known m ms zero are h =
+    way_is (ways_of ms) (names m.tree) 0 (root_of m) are.paths (among_names m ms 0 are h)
+path_known m ms (suc k) are h =
+    let among : suc k < length (names m.tree) = among_names m ms (suc k) are h in
+    way_is (ways_of ms) (names m.tree) (suc k) (root_of m) are.paths among
+    ∙ sym (ap (λ (v : Made). v.path)
+    (member_is m (root_of m ∷ []) (node_names [] m.tree) k (root_of m) (omega (arith, among))))
+
+pub node_known : (m : Image) (ms : List Member) (i : ℕ) (d : Member) → AreMembers m ms → i < length ms
+    → image_node m (get_or ms i d).node.0 ≡ Some (node_at m i)
+unfolding members_of
+node_known m ms i d are h =
+    let ns : List Name = names m.tree in
+    let among : i < length ns = subst (λ (n : ℕ). i < n) (as_many ms ns are.known) h in
+    ap (λ (v : Known). image_node m v.number) (known_at [] ns ms i d (root_of m) are.known h)
+    ∙ node_at-in m.tree (get_or ns i (root_of m)).node m.coherent
+    (subst (IsIn (get_or ns i (root_of m)).node) (names_nodes m.tree) (in_at ns i (root_of m) among))
 
 -- ---- nothing is made of the root
 

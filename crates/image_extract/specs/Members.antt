@@ -1,11 +1,12 @@
--- `members_in`: the names of an image as the members of a tree that is extracted. (This project's
--- own.)
-use Rattle.std.specs.Prelude.{ℕ, List, [], ◌∷◌, ◌++◌, Option, Some, None}
+-- `members_in`: the names of an image as the members of a tree that is extracted. `stat_at`: the
+-- attributes of the node of a name. (This project's own.)
+use Rattle.std.specs.Prelude.{ℕ, List, [], ◌∷◌, ◌++◌, get_or, Option, Some, None}
 use Rattle.rom_tree.specs.declared.types.Kind.{Kind as NodeKind}
 use Rattle.rom_tree.specs.declared.types.Kind.TheVariants as node
-use Rattle.rom_tree.specs.Image.{Image, contents_of}
-use Rattle.rom_tree.specs.Names.{Name, named, node_names}
-use Rattle.rom_tree.specs.Tree.{kind_of}
+use Rattle.rom_tree.specs.declared.types.Stat.{Stat}
+use Rattle.rom_tree.specs.Image.{Image, contents_of, stat_of}
+use Rattle.rom_tree.specs.Names.{Name, named, names, node_names}
+use Rattle.rom_tree.specs.Tree.{Node, kind_of}
 use Rattle.image_manifest.specs.Members.{first_behind}
 use Rattle.tree_extract.specs.declared.tree.Kind.{Kind}
 use Rattle.tree_extract.specs.declared.tree.Kind.TheVariants.{Directory, File, Further, Symlink}
@@ -50,3 +51,10 @@ unfoldable pub members_in : Image → List Member
 members_in m =
     record { path = 47 ∷ []; kind = Nothing; bytes = [] }
     ∷ members_behind m (root_of m ∷ []) (node_names [] m.tree)
+
+-- the node of the name at an index, and its attributes
+abbrev pub node_at : Image → ℕ → Node
+node_at m i = (get_or (names m.tree) i (root_of m)).node
+
+abbrev pub stat_at : Image → ℕ → Stat
+stat_at m i = stat_of (node_at m i)

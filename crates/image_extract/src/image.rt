@@ -1,12 +1,13 @@
 //! An image as a tree that is extracted.
-ghost use Rattle.std.specs.Prelude.{◌≡◌, ◌≢◌, ◌<◌, length};
+ghost use Rattle.std.specs.Prelude.{◌≡◌, ◌≢◌, ◌<◌, Some, length};
 ghost use Rattle.image_manifest.specs.Members.{AreMembers};
 ghost use Rattle.image_extract.specs.Members.{made_of as made};
 
+use arrayvec::ArrayVec;
 use image_info::cat;
-use image_manifest::Member;
+use image_manifest::{Member, PATH_MAX, path_of};
 use rom_fields::{ByteWrite, Failed};
-use rom_tree::{Kind as NodeKind, TreeImage, link_text};
+use rom_tree::{Kind as NodeKind, NodeId, Stat, TreeImage, link_text};
 use tree_extract::{Kind, Tree};
 
 /// An image and its members, which are those that `image_manifest::members` returns.
@@ -37,6 +38,35 @@ fn made_of(kind: NodeKind, first: Option<usize>) -> Kind
 
 impl<'b, 'a, T: TreeImage<'a>> ImageTree<'b, 'a, T> {
     ghost use Rattle.image_extract.specs.Known.{IsKnown};
+    ghost use Rattle.image_extract.specs.Members.{members_in, node_at, stat_at};
+    ghost use Rattle.rom_tree.specs.Image.{image_node};
+    ghost use Rattle.tree_extract.specs.Members.{path_at};
+
+    /// Replaces what the buffer has by the path of the member at an index. The root's is a slash.
+    pub fn path(&self, index: usize, path: &mut ArrayVec<u8, PATH_MAX>)
+        requires { index < length (members_in (T.image self.now.image.now)) }
+        ensures { path.new.items ≡ path_at (members_in (T.image self.now.image.now)) index }
+    {
+        path_of(self.members, index, path);
+    }
+
+    /// Returns the attributes of the node of the member at an index.
+    pub fn stat(&self, index: usize) -> Stat
+        requires { index < length (members_in (T.image self.now.image.now)) }
+        ensures { result ≡ stat_at (T.image self.now.image.now) index }
+    {
+        let node = self.node(index);
+        self.image.stat(node)
+    }
+
+    /// Returns the node of the member at an index.
+    fn node(&self, index: usize) -> NodeId
+        requires { index < length self.now.members.now }
+        ensures { image_node (T.image self.now.image.now) result.0
+            ≡ Some (node_at (T.image self.now.image.now) index) }
+    {
+        self.members[index].node
+    }
 
     /// Returns the member at an index that is not the root's.
     fn member(&self, index: usize) -> Member<'a>

@@ -11,7 +11,7 @@ use crate::reporter::Reporter;
 use cramfs_format::{Order, inode};
 use image_check::{AnyImage, check};
 use program_streams::Again;
-use rom_commands::{Failure, Status};
+use rom_commands::{Ending, Status};
 use rom_fields::{ByteWrite, Plain, put, put_long_decimal};
 use rom_tree::{Kind, Limits, NodeId, TreeImage, Walk, longest_run};
 use std::alloc::{AllocError, Global};
@@ -243,7 +243,7 @@ fn print(
 ) -> Result<(), Status> {
     let rt = reporter.rt;
     let Ok(out) = BufWriter::new(rt.alloc(), Again::new(io::writer(rt))) else {
-        return Err(reporter.say(Failure::Memory));
+        return Err(reporter.say(Ending::Memory));
     };
     let mut out = Plain::new(out);
     let mut failed = false;
@@ -270,7 +270,7 @@ fn print(
         put(&mut out, &mut failed, b"\n");
     }
     if out.flush().is_err() || failed {
-        return Err(reporter.say(Failure::WriteFault));
+        return Err(reporter.say(Ending::WriteFault));
     }
     Ok(())
 }
@@ -301,7 +301,7 @@ pub fn run(reporter: &Reporter<'_>, bytes: &[u8], status: Status) -> Status {
         return status;
     };
     let Ok((all, paths)) = found(alloc, &image, order) else {
-        return reporter.say(Failure::Memory);
+        return reporter.say(Ending::Memory);
     };
     match print(reporter, &all, &paths) {
         Ok(()) => status,

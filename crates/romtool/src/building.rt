@@ -24,7 +24,7 @@ use layout_plan::{PlanError, plan};
 use manifest::{Manifest, ManifestError, parse};
 use plan_types::{Format, Plan};
 use program_streams::Held;
-use rom_commands::{Failure, Status};
+use rom_commands::{Ending, Status};
 use rom_fields::{Failed, Plain};
 use sentences::reasons::{
     NOT_TAKEN, OWN_INPUT, OWN_OUTPUT, PART_REPLACED, SOURCE_CHANGED, SOURCE_UNREAD, SUM_DIFFERS,
@@ -49,7 +49,7 @@ const NULL_DEVICE: u64 = 0x103;
 fn printed(reporter: &Reporter<'_>, written: Result<(), Failed>) -> Status {
     match written {
         Ok(()) => Status::Refused,
-        Err(Failed) => reporter.say(Failure::WriteFault),
+        Err(Failed) => reporter.say(Ending::WriteFault),
     }
 }
 
@@ -74,7 +74,7 @@ fn manifest_of(reporter: &Reporter<'_>, name: &str, text: &[u8]) -> Result<Manif
     let rt = reporter.rt;
     match parse(rt.alloc(), text) {
         Ok(manifest) => Ok(manifest),
-        Err(ManifestError::OutOfMemory) => Err(reporter.say(Failure::Memory)),
+        Err(ManifestError::OutOfMemory) => Err(reporter.say(Ending::Memory)),
         Err(ManifestError::Bad { line, number }) => {
             let out = &mut Plain::new(Held::new(rt.alloc(), io::writer(rt)));
             let status = printed(reporter, print_bad_manifest(out, line, number));
@@ -99,7 +99,7 @@ fn planned(
     let rt = reporter.rt;
     match plan(rt.alloc(), origin.manifest, sizes, format) {
         Ok(plan) => Ok(plan),
-        Err(PlanError::OutOfMemory) => Err(reporter.say(Failure::Memory)),
+        Err(PlanError::OutOfMemory) => Err(reporter.say(Ending::Memory)),
         Err(PlanError::Refused { line, number }) => {
             let out = &mut Plain::new(Held::new(rt.alloc(), io::writer(rt)));
             let status = printed(reporter, print_misfit(out, line, number));
@@ -120,7 +120,7 @@ struct Files<'a> {
 impl Files<'_> {
     /// Reports that a source changed.
     fn say_changed(&self, reporter: &Reporter<'_>, file: usize) -> Status {
-        let status = reporter.say(Failure::Changed);
+        let status = reporter.say(Ending::Changed);
         reporter.explain_source(self.origin, file, &SOURCE_CHANGED);
         status
     }
@@ -129,14 +129,14 @@ impl Files<'_> {
     /// this reason if there is one.
     fn say_fault(&self, reporter: &Reporter<'_>, file: usize, reason: Option<io::Error>) -> Status {
         let (Some(name), Some(stamp)) = (self.names.get(file), self.stamps.get(file)) else {
-            return reporter.say(Failure::Changed);
+            return reporter.say(Ending::Changed);
         };
         let reason = match has_changed(reporter.rt, name, stamp) {
             Ok(true) => return self.say_changed(reporter, file),
             Ok(false) => reason,
             Err(e) => Some(e),
         };
-        let status = reporter.say(Failure::File(name.as_bytes()));
+        let status = reporter.say(Ending::File(name.as_bytes()));
         match reason {
             Some(e) => reporter.explain_error(self.origin, file, &e),
             None => reporter.explain_source(self.origin, file, &SOURCE_UNREAD),
@@ -391,7 +391,7 @@ fn warnings_of<'m>(
 {
     let alloc = reporter.rt.alloc();
     let Ok(warnings) = foreseen(alloc, asked.format, origin.manifest, sizes) else {
-        return Err(reporter.say(Failure::Memory));
+        return Err(reporter.say(Ending::Memory));
     };
     match warnings.least() {
         Some((line, number)) if asked.strict => {
@@ -474,7 +474,7 @@ fn say_built(reporter: &Reporter<'_>, len: u64) -> Status {
     let line = &mut Plain::new(Held::new(reporter.rt.alloc(), io::writer(reporter.rt)));
     match print_built(line, len) {
         Ok(()) => Status::Done,
-        Err(Failed) => reporter.say(Failure::WriteFault),
+        Err(Failed) => reporter.say(Ending::WriteFault),
     }
 }
 

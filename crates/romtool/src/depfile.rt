@@ -4,7 +4,7 @@
 //! of some other bytes. A name that it cannot read is refused before anything is written.
 use crate::reporter::Reporter;
 use crate::target::Target;
-use rom_commands::{Failure, Status};
+use rom_commands::{Ending, Status};
 use rom_fields::{ByteWrite, put};
 use sentences::reasons::{NOT_TAKEN, OWN_RULE, RULE_UNFIT};
 use std::alloc::AllocError;
@@ -128,7 +128,7 @@ fn write(
 ) -> Result<(), Status> {
     let rt = reporter.rt;
     let Ok(text) = rule.text(rt) else {
-        return Err(reporter.say(Failure::Memory));
+        return Err(reporter.say(Ending::Memory));
     };
     let Some(mut writer) = target.take_writer() else {
         return Err(reporter.failed(name.as_bytes(), &NOT_TAKEN));

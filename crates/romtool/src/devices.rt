@@ -8,7 +8,7 @@ use manifest::error::{BAD_WORD, EXISTS, NO_PARENT};
 use manifest::{Entry, Line, ManifestError, Word, parse, write_line};
 use percent_encoding::percent_decode;
 use program_streams::Held;
-use rom_commands::{Failure, Status};
+use rom_commands::{Ending, Status};
 use rom_fields::Plain;
 use sentences::reasons::{DEVICE_EXISTS, DEVICE_NO_PARENT, DEVICE_NO_TEXT, DEVICE_WORD};
 use std::alloc::{AllocError, AllocFailed, Global};
@@ -186,7 +186,7 @@ fn wrong_in(
 /// Reports on standard error which line of the file is refused, and why.
 fn refuse(reporter: &Reporter<'_>, name: &str, text: &[u8], line: u64, why: LineError) -> Status {
     let (number, reason) = match why {
-        LineError::OutOfMemory => return reporter.say(Failure::Memory),
+        LineError::OutOfMemory => return reporter.say(Ending::Memory),
         LineError::Bad(number) => (number, None),
         LineError::Other(number, reason) => (number, Some(reason)),
     };
@@ -253,7 +253,7 @@ pub fn listed(
         Err((line, e)) => return Err(refuse(reporter, name, &text, line, e)),
     };
     if sort(&mut listed).is_err() {
-        return Err(reporter.say(Failure::Memory));
+        return Err(reporter.say(Ending::Memory));
     }
     match first_wrong(&listed, found) {
         None => Ok(listed),

@@ -9,7 +9,7 @@ use command_line::Diff;
 use image_check::AnyImage;
 use inspect_commands::print_diff;
 use program_streams::{Again, Held};
-use rom_commands::{Failure, Status};
+use rom_commands::{Ending, Status};
 use rom_fields::Plain;
 use std::io::{self, BufWriter};
 
@@ -45,11 +45,11 @@ fn print<'a>(
 {
     let rt = reporter.rt;
     let Ok(out) = BufWriter::new(rt.alloc(), Again::new(io::writer(rt))) else {
-        return reporter.say(Failure::Memory);
+        return reporter.say(Ending::Memory);
     };
     let mut out = Plain::new(out);
     let mut err = Plain::new(Held::new(rt.alloc(), rt.stderr()));
-    let status = print_diff(rt.alloc(), old, new, places, &mut out, &mut err);
-    reporter.hand_on(err);
-    status
+    let ending = print_diff(rt.alloc(), old, new, places, &mut out, &mut err);
+    reporter.finish(err, ending, b"");
+    ending.status()
 }

@@ -9,7 +9,7 @@ use command_line::Digest;
 use image_check::AnyImage;
 use inspect_commands::{print_digests, print_image_digest};
 use program_streams::{Again, Held};
-use rom_commands::{Failure, Status};
+use rom_commands::{Ending, Status};
 use rom_fields::Plain;
 use rom_tree::TreeImage;
 use std::io::{self, BufWriter};
@@ -32,15 +32,15 @@ fn print(reporter: &Reporter<'_>, image: &AnyImage<'_>, asked: Digest<'_>) -> St
 {
     let rt = reporter.rt;
     let Ok(out) = BufWriter::new(rt.alloc(), Again::new(io::writer(rt))) else {
-        return reporter.say(Failure::Memory);
+        return reporter.say(Ending::Memory);
     };
     let mut out = Plain::new(out);
     let mut err = Plain::new(Held::new(rt.alloc(), rt.stderr()));
-    let status = if asked.whole {
+    let ending = if asked.whole {
         print_image_digest(image.bytes(), &mut out, &mut err)
     } else {
         print_digests(image, &mut out, &mut err)
     };
-    reporter.hand_on(err);
-    status
+    reporter.finish(err, ending, b"");
+    ending.status()
 }

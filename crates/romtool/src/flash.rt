@@ -11,7 +11,7 @@ use image_check::AnyImage;
 use image_header::is_prefix;
 use inspect_commands::{print_extents, print_header, print_picture, print_places};
 use program_streams::{Again, Held};
-use rom_commands::{Failure, Status};
+use rom_commands::{Ending, Status};
 use rom_fields::{ByteWrite, Plain};
 use sentences::reasons::{NO_ADDRESS, NO_PREFIX};
 use std::alloc::Global;
@@ -48,7 +48,7 @@ pub fn map(reporter: &Reporter<'_>, map: Map<'_>) -> Status {
         MapForm::C(prefix) => {
             let prefix = prefix.unwrap_or(PREFIX);
             if !is_prefix(prefix.as_bytes()) {
-                let status = reporter.say(Failure::Usage);
+                let status = reporter.say(Ending::Usage);
                 reporter.explain(prefix.as_bytes(), &NO_PREFIX);
                 return status;
             }
@@ -83,7 +83,7 @@ fn run(reporter: &Reporter<'_>, name: &str, base: u64, asked: Asked<'_>) -> Stat
         file: loaded.file.max(loaded.bytes.len() as u64),
     };
     if !has_addresses(flash) {
-        let status = reporter.say(Failure::Usage);
+        let status = reporter.say(Ending::Usage);
         reporter.explain(name.as_bytes(), &NO_ADDRESS);
         return status;
     }
@@ -94,14 +94,14 @@ fn run(reporter: &Reporter<'_>, name: &str, base: u64, asked: Asked<'_>) -> Stat
 }
 
 /// Prints what is asked of a valid image to `out`, or to `err` why not.
-fn print_to<W: ByteWrite, E: ByteWrite>(
+fn print_to<'a, W: ByteWrite, E: ByteWrite>(
     alloc: Global,
-    image: &AnyImage<'_>,
+    image: &AnyImage<'a>,
     flash: Flash,
     asked: Asked<'_>,
     out: &mut W,
     err: &mut E,
-) -> Status
+) -> Ending<'a>
     requires shallow { IsShallow (any_view image.now).tree }
     requires checked { IsChecked image.now }
 {
@@ -121,11 +121,11 @@ fn print(reporter: &Reporter<'_>, image: &AnyImage<'_>, flash: Flash, asked: Ask
 {
     let rt = reporter.rt;
     let Ok(out) = BufWriter::new(rt.alloc(), Again::new(io::writer(rt))) else {
-        return reporter.say(Failure::Memory);
+        return reporter.say(Ending::Memory);
     };
     let mut out = Plain::new(out);
     let mut err = Plain::new(Held::new(rt.alloc(), rt.stderr()));
-    let status = print_to(rt.alloc(), image, flash, asked, &mut out, &mut err);
-    reporter.hand_on(err);
-    status
+    let ending = print_to(rt.alloc(), image, flash, asked, &mut out, &mut err);
+    reporter.finish(err, ending, b"");
+    ending.status()
 }

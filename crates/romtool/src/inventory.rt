@@ -7,7 +7,7 @@ use crate::stamp::Stamp;
 use build_commands::inventory::{Device, FileKind, Inode, NamedFile};
 use command_line::ScanAll;
 use directory_walk::{Directory, Entry};
-use rom_commands::{Failure, Status};
+use rom_commands::{Ending, Status};
 use sentences::reasons::NO_KIND;
 use std::alloc::{AllocError, Global};
 use std::fs::{self, Metadata};
@@ -110,7 +110,7 @@ impl Whole<'_> {
     /// Reports all names and texts that are no UTF-8, in the order of the bytes of names.
     fn all_texts(&mut self, reporter: &Reporter<'_>) -> Result<(), Status> {
         if self.foreign.sort_by(|a, b| a.place.cmp(&b.place)).is_err() {
-            return Err(reporter.say(Failure::Memory));
+            return Err(reporter.say(Ending::Memory));
         }
         let mut status = Ok(());
         for foreign in &self.foreign {
@@ -143,11 +143,11 @@ impl Survey for Whole<'_> {
         why: &'static str,
     ) -> Result<(), Status> {
         let Ok(place) = String::from_str(reporter.rt.alloc(), name) else {
-            return Err(reporter.say(Failure::Memory));
+            return Err(reporter.say(Ending::Memory));
         };
         match self.foreign.push(Foreign { place, why }) {
             Ok(()) => Ok(()),
-            Err(_) => Err(reporter.say(Failure::Memory)),
+            Err(_) => Err(reporter.say(Ending::Memory)),
         }
     }
 }
@@ -199,7 +199,7 @@ pub fn all_below(
             return Err(reporter.refused(top.as_bytes(), &e));
         }
         if entered.push(walked.directories).is_err() {
-            return Err(reporter.say(Failure::Memory));
+            return Err(reporter.say(Ending::Memory));
         }
     }
     whole.all_texts(reporter)?;

@@ -5,7 +5,7 @@ use crate::directories::{self, base, is_foreign, opened_name};
 use crate::reporter::Reporter;
 use crate::stamp::{Stamp, let_rest};
 use directory_walk::{Directory, Listed, Lister, WalkError, Walked, walk};
-use rom_commands::{Failure, Status};
+use rom_commands::{Ending, Status};
 use sentences::reasons::{FOREIGN_LINK, FOREIGN_NAME};
 use std::alloc::{AllocError, Global};
 use std::fs::{self, DirEntry, Metadata};
@@ -82,14 +82,14 @@ impl<'a, S: Survey> SystemLister<'a, S> {
         {
             Ok(false) => {}
             Ok(true) => return Ok(()),
-            Err(_) => return Err(reporter.say(Failure::Memory)),
+            Err(_) => return Err(reporter.say(Ending::Memory)),
         }
         let name = entry.path().as_str();
         match self.examined(path, entry) {
             Ok(None) => Ok(()),
             Ok(Some(one)) => match listed.push(one) {
                 Ok(()) => Ok(()),
-                Err(_) => Err(reporter.say(Failure::Memory)),
+                Err(_) => Err(reporter.say(Ending::Memory)),
             },
             Err(e) if is_foreign(&e) => self.survey.note(&reporter, name, FOREIGN_LINK),
             Err(e) => Err(reporter.refused(name.as_bytes(), &e)),
@@ -127,7 +127,7 @@ impl<'a, S: Survey> Lister for SystemLister<'a, S> {
                 Ok(entry) => {
                     match format!(in alloc; "{}/{}", &directory.path, entry.file_name()) {
                         Ok(path) => self.add(&mut listed, path, &entry)?,
-                        Err(_) => return Err(reporter.say(Failure::Memory)),
+                        Err(_) => return Err(reporter.say(Ending::Memory)),
                     }
                 }
                 Err(e) if is_foreign(&e) => {
@@ -157,7 +157,7 @@ pub fn all_below<S: Survey>(
         Err(e) => return Err(reporter.refused(top.as_bytes(), &e)),
     };
     let Ok(path) = String::from_str(alloc, base(top)) else {
-        return Err(reporter.say(Failure::Memory));
+        return Err(reporter.say(Ending::Memory));
     };
     let state = Stamp::of(&attributes);
     let mut lister = SystemLister {
@@ -169,6 +169,6 @@ pub fn all_below<S: Survey>(
     match walk(alloc, &mut lister, Directory { path, state }) {
         Ok(walked) => Ok((attributes, walked)),
         Err(WalkError::Refused(refusal)) => Err(refusal.error),
-        Err(WalkError::OutOfMemory) => Err(reporter.say(Failure::Memory)),
+        Err(WalkError::OutOfMemory) => Err(reporter.say(Ending::Memory)),
     }
 }

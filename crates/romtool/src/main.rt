@@ -10,7 +10,9 @@
 //!
 //! What is printed, answered and written is proved in `rom_commands`, `build_commands`,
 //! `image_manifest` and `image_build`; what is read into memory and how streams are used, in
-//! `program_streams` and `image_load`. The work with files and directories is only tested.
+//! `program_streams` and `image_load`. How a file is replaced is proved in `image_file`, and how an
+//! image is extracted in `tree_extract`, of accounts of the calls that are made of the system. The
+//! other work with files and directories is only tested.
 #![tactic(auto)]
 
 mod advice;
@@ -28,12 +30,14 @@ mod directories;
 mod disk;
 mod explained;
 mod extracting;
+mod extraction;
 mod flash;
 mod foreseen;
 mod imaging;
 mod inventory;
 mod lister;
 mod making;
+mod members;
 mod origin;
 mod overlay;
 mod owner;

@@ -12,7 +12,7 @@ use build_commands::inventory::{NamedFile, lines, put_found};
 use command_line::{Owner, ScanAll};
 use manifest::Entry;
 use program_streams::Again;
-use rom_commands::{Failure, Status};
+use rom_commands::{Ending, Status};
 use rom_fields::{Failed, Plain};
 use sentences::reasons::{KINDS_DIFFER, LONG_NAME, MANIFEST_NOT_TAKEN, OWN_FILE, PART_REPLACED};
 use std::fs;
@@ -25,11 +25,11 @@ const MOST_VOLUME: usize = 255;
 /// Lays files over one another. Reports a file that cannot replace another one.
 fn laid(reporter: &Reporter<'_>, mut found: Vec<NamedFile>) -> Result<Vec<NamedFile>, Status> {
     if sort(&mut found).is_err() {
-        return Err(reporter.say(Failure::Memory));
+        return Err(reporter.say(Ending::Memory));
     }
     match laid_over(reporter.rt.alloc(), found) {
         Ok(laid) => Ok(laid),
-        Err(OverlayError::OutOfMemory) => Err(reporter.say(Failure::Memory)),
+        Err(OverlayError::OutOfMemory) => Err(reporter.say(Ending::Memory)),
         Err(OverlayError::Kinds(file)) => {
             Err(reporter.failed(file.place.as_bytes(), &KINDS_DIFFER))
         }
@@ -57,7 +57,7 @@ fn with_devices(
     };
     for file in devices::listed(reporter, name, &found)? {
         if found.push(file).is_err() {
-            return Err(reporter.say(Failure::Memory));
+            return Err(reporter.say(Ending::Memory));
         }
     }
     laid(reporter, found)
@@ -131,11 +131,11 @@ fn write_file(
 /// Prints a manifest on standard output.
 fn print(reporter: &Reporter<'_>, volume: &[u8], lines: &[Entry<'_>]) -> Result<(), Status> {
     let Ok(out) = BufWriter::new(reporter.rt.alloc(), Again::new(io::writer(reporter.rt))) else {
-        return Err(reporter.say(Failure::Memory));
+        return Err(reporter.say(Ending::Memory));
     };
     match put_found(&mut Plain::new(out), volume, lines) {
         Ok(()) => Ok(()),
-        Err(Failed) => Err(reporter.say(Failure::WriteFault)),
+        Err(Failed) => Err(reporter.say(Ending::WriteFault)),
     }
 }
 
@@ -143,16 +143,16 @@ fn print(reporter: &Reporter<'_>, volume: &[u8], lines: &[Entry<'_>]) -> Result<
 fn pack(reporter: &Reporter<'_>, scan: &ScanAll<'_>) -> Result<(), Status> {
     let volume = scan.volume.unwrap_or("").as_bytes();
     if volume.len() > MOST_VOLUME {
-        let status = reporter.say(Failure::Usage);
+        let status = reporter.say(Ending::Usage);
         reporter.explain(volume, &LONG_NAME);
         return Err(status);
     }
     let found = all_found(reporter, scan)?;
     let Ok(lines) = lines(reporter.rt.alloc(), scan.format, &found) else {
-        return Err(reporter.say(Failure::Memory));
+        return Err(reporter.say(Ending::Memory));
     };
     let Ok(unfit) = Unfit::of(reporter.rt.alloc(), &lines, &found) else {
-        return Err(reporter.say(Failure::Memory));
+        return Err(reporter.say(Ending::Memory));
     };
     if scan.strict && !unfit.is_none() {
         return Err(unfit.refuse(reporter, scan));

@@ -2,7 +2,7 @@
 use crate::reporter::Reporter;
 use command_line::ScanAll;
 use path_patterns::{PatternError, Piece, matches, pieces_of};
-use rom_commands::{Failure, Status};
+use rom_commands::{Ending, Status};
 use sentences::reasons::{PATTERN_CLASS, PATTERN_UNFINISHED};
 use std::alloc::{AllocError, Global};
 
@@ -39,11 +39,11 @@ fn read(alloc: Global, pattern: &str) -> Result<Vec<Piece>, PatternError> {
 fn pieces(reporter: &Reporter<'_>, pattern: &str) -> Result<Vec<Piece>, Status> {
     let why = match read(reporter.rt.alloc(), pattern) {
         Ok(pieces) => return Ok(pieces),
-        Err(PatternError::OutOfMemory) => return Err(reporter.say(Failure::Memory)),
+        Err(PatternError::OutOfMemory) => return Err(reporter.say(Ending::Memory)),
         Err(PatternError::Unfinished) => PATTERN_UNFINISHED,
         Err(PatternError::Class) => PATTERN_CLASS,
     };
-    let status = reporter.say(Failure::Usage);
+    let status = reporter.say(Ending::Usage);
     reporter.explain(pattern.as_bytes(), &why);
     Err(status)
 }
@@ -53,7 +53,7 @@ fn excludes_of(reporter: &Reporter<'_>, scan: &ScanAll<'_>) -> Result<Vec<Vec<Pi
     let mut excludes = Vec::new(reporter.rt.alloc());
     for pattern in &scan.excludes {
         if excludes.push(pieces(reporter, pattern)?).is_err() {
-            return Err(reporter.say(Failure::Memory));
+            return Err(reporter.say(Ending::Memory));
         }
     }
     Ok(excludes)
@@ -67,7 +67,7 @@ impl Patterns {
         for rule in &scan.aligns {
             let (pieces, align) = (pieces(reporter, rule.pattern)?, rule.align);
             if aligns.push(AlignPattern { pieces, align }).is_err() {
-                return Err(reporter.say(Failure::Memory));
+                return Err(reporter.say(Ending::Memory));
             }
         }
         Ok(Patterns { excludes, aligns })

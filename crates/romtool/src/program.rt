@@ -17,8 +17,8 @@ use image_check::check;
 use image_load::{Found, Front, Loaded};
 use program_streams::{Again, Ahead, Held};
 use rom_commands::{
-    Asked, Failure, Status, complain_of_fault, has_addresses, hello, print, print_file, refuse,
-    refuse_in, serve_on, serve_several_on,
+    Asked, Ending, Status, has_addresses, hello, print, print_file, refuse, refuse_in, serve_on,
+    serve_several_on,
 };
 use rom_faults::{CheckError, Fault};
 use rom_fields::{ByteRead, ByteWrite, Plain};
@@ -53,7 +53,7 @@ pub fn run(rt: &HostRuntime) -> u8
 fn settled(reporter: &Reporter<'_>, status: Status) -> Status {
     match status {
         Status::Done | Status::Refused if settle_output(reporter.rt).is_err() => {
-            reporter.say(Failure::WriteFault)
+            reporter.say(Ending::WriteFault)
         }
         _ => status,
     }
@@ -118,12 +118,9 @@ fn refuse_front(reporter: &Reporter<'_>, name: &str, front: &Front, asked: Asked
     let rt = reporter.rt;
     let mut out = Plain::new(Held::new(rt.alloc(), io::writer(rt)));
     let mut err = Plain::new(Held::new(rt.alloc(), rt.stderr()));
-    let status = refuse(front.fault, asked, &mut out, &mut err);
-    reporter.hand_on(err);
-    if status == Status::Refused {
-        reporter.explain_fault(name.as_bytes(), &front.bytes, front.fault);
-    }
-    status
+    let ending = refuse(front.fault, asked, &mut out, &mut err);
+    reporter.finish_image(err, ending, name.as_bytes(), &front.bytes);
+    ending.status()
 }
 
 /// The bytes of the image in a file. If it has a fault, the fault's line is printed as for a
@@ -144,17 +141,14 @@ fn bytes_to_copy(reporter: &Reporter<'_>, name: &str) -> Result<Vec<u8>, Status>
 
 /// Reports on standard error which fault a file has, by all its bytes or by its first ones.
 fn complain(reporter: &Reporter<'_>, name: &str, bytes: &[u8], fault: Fault) -> Status {
-    let rt = reporter.rt;
-    let mut err = Plain::new(Held::new(rt.alloc(), rt.stderr()));
-    let status = complain_of_fault(fault, &mut err);
-    reporter.hand_on(err);
+    let status = reporter.say(Ending::Fault { fault, image: None });
     reporter.explain_fault(name.as_bytes(), bytes, fault);
     status
 }
 
 /// Reports that some bytes of an image have no address.
 fn no_address(reporter: &Reporter<'_>, name: &str) -> Status {
-    let status = reporter.say(Failure::Usage);
+    let status = reporter.say(Ending::Usage);
     reporter.explain(name.as_bytes(), &NO_ADDRESS);
     status
 }
@@ -197,29 +191,32 @@ fn copy(reporter: &Reporter<'_>, name: &str, path: &str) -> Status {
         Err(status) => return status,
     };
     let Ok(out) = BufWriter::new(rt.alloc(), Again::new(io::writer(rt))) else {
-        return reporter.say(Failure::Memory);
+        return reporter.say(Ending::Memory);
     };
     let mut err = Plain::new(Held::new(rt.alloc(), rt.stderr()));
     let path = path.as_bytes();
-    let status = print_file(rt.alloc(), &bytes, path, &mut Plain::new(out), &mut err);
-    reporter.hand_on_about(err, path);
-    if status == Status::Refused {
-        reporter.explain_image(name.as_bytes(), &bytes);
-    }
-    status
+    let ending = print_file(rt.alloc(), &bytes, path, &mut Plain::new(out), &mut err);
+    reporter.finish(err, ending, path);
+    reporter.explain_ending(ending, name.as_bytes(), &bytes);
+    ending.status()
 }
 
 /// Takes the image in a file apart.
 fn take_apart(reporter: &Reporter<'_>, asked: Extract<'_>) -> Status {
-    let bytes = match bytes_to_copy(reporter, asked.image) {
-        Ok(bytes) => bytes,
-        Err(status) => return status,
-    };
-    match check(reporter.rt.alloc(), &bytes, Limits::usual()) {
+    match bytes_to_copy(reporter, asked.image) {
+        Ok(bytes) => take_image_apart(reporter, &bytes, asked),
+        Err(status) => status,
+    }
+}
+
+/// Takes the image in these bytes apart.
+fn take_image_apart(reporter: &Reporter<'_>, bytes: &[u8], asked: Extract<'_>) -> Status {
+    headline::laws::accepted_is_lawful();
+    match check(reporter.rt.alloc(), bytes, Limits::usual()) {
         Ok(image) => extracting::run(reporter, &image, asked),
-        Err(CheckError::OutOfMemory) => reporter.say(Failure::Memory),
+        Err(CheckError::OutOfMemory) => reporter.say(Ending::Memory),
         Err(CheckError::Fault { number, at }) => {
-            complain(reporter, asked.image, &bytes, Fault { number, at })
+            complain(reporter, asked.image, bytes, Fault { number, at })
         }
     }
 }
@@ -232,18 +229,15 @@ fn serve(reporter: &Reporter<'_>, name: &str) -> Status {
         Err(status) => return status,
     };
     let mut err = Plain::new(Held::new(rt.alloc(), rt.stderr()));
-    let status = serve_on(
+    let ending = serve_on(
         rt.alloc(),
         &bytes,
         &mut Plain::new(Ahead::new(rt.reader())),
         &mut Plain::new(Replies::new(*reporter, io::writer(rt))),
         &mut err,
     );
-    if status == Status::Refused {
-        reporter.explain_image(name.as_bytes(), &bytes);
-    }
-    reporter.hand_on(err);
-    status
+    reporter.finish_image(err, ending, name.as_bytes(), &bytes);
+    ending.status()
 }
 
 /// Why a file cannot be served together with others.
@@ -292,12 +286,27 @@ fn say_missing(reporter: &Reporter<'_>, name: &str, image: u32, missing: &Missin
     let rt = reporter.rt;
     let mut out = Plain::new(Held::new(rt.alloc(), io::writer(rt)));
     let mut err = Plain::new(Held::new(rt.alloc(), rt.stderr()));
-    let status = refuse_in(front.fault, image, &mut out, &mut err);
-    if status == Status::Refused {
-        reporter.explain_fault(name.as_bytes(), &front.bytes, front.fault);
+    let ending = refuse_in(front.fault, image, &mut out, &mut err);
+    reporter.finish_image(err, ending, name.as_bytes(), &front.bytes);
+    ending.status()
+}
+
+/// The name and the bytes of the file whose fault an ending has, if it has one.
+fn refused_file<'a>(
+    names: &[&'a str],
+    files: &'a [Vec<u8>],
+    ending: Ending<'_>,
+) -> (&'a [u8], &'a [u8]) {
+    if let Ending::Fault {
+        image: Some(image),
+        ..
+    } = ending
+        && let Some(name) = names.get(image as usize)
+        && let Some(file) = files.get(image as usize)
+    {
+        return (name.as_bytes(), file.as_slice());
     }
-    reporter.hand_on(err);
-    status
+    (b"", b"")
 }
 
 /// Answers lines from the images in one to eight files of these names, or reports their first
@@ -310,16 +319,14 @@ fn serve_files<R: ByteRead>(
 ) -> Status {
     let rt = reporter.rt;
     if files.is_empty() || files.len() > 8 {
-        return reporter.say(Failure::Usage);
+        return reporter.say(Ending::Usage);
     }
     let mut err = Plain::new(Held::new(rt.alloc(), rt.stderr()));
     let out = &mut Plain::new(Replies::new(*reporter, io::writer(rt)));
-    let status = serve_several_on(rt.alloc(), files, lines, out, &mut err);
-    if status == Status::Refused {
-        reporter.explain_images(names, files);
-    }
-    reporter.hand_on(err);
-    status
+    let ending = serve_several_on(rt.alloc(), files, lines, out, &mut err);
+    let (name, bytes) = refused_file(names, files, ending);
+    reporter.finish_image(err, ending, name, bytes);
+    ending.status()
 }
 
 /// Serves the images in one to eight files. If one cannot be read, a fault of an image before it is
@@ -379,13 +386,13 @@ fn print_out(reporter: &Reporter<'_>, name: &[u8], bytes: &[u8], asked: Asked) -
 {
     let rt = reporter.rt;
     let Ok(out) = BufWriter::new(rt.alloc(), Again::new(io::writer(rt))) else {
-        return reporter.say(Failure::Memory);
+        return reporter.say(Ending::Memory);
     };
     let mut err = Plain::new(Held::new(rt.alloc(), rt.stderr()));
-    let status = print(rt.alloc(), bytes, asked, &mut Plain::new(out), &mut err);
-    reporter.hand_on(err);
-    if status == Status::Refused && reporter.explain_image(name, bytes) {
+    let ending = print(rt.alloc(), bytes, asked, &mut Plain::new(out), &mut err);
+    reporter.finish_image(err, ending, name, bytes);
+    if ending == Ending::Warned && reporter.is_explained() {
         explain_warning(reporter, name, bytes, asked);
     }
-    status
+    ending.status()
 }

@@ -1,17 +1,15 @@
 //! Writes to standard error: a line of the protocol, and a line in words for people, if it is asked
 //! for or standard error is a terminal.
 ghost use Rattle.std.specs.Prelude.{◌≡◌};
-ghost use Rattle.rom_commands.specs.Endings.{failure_status};
+ghost use Rattle.rom_commands.specs.Endings.{status_of};
 
 use crate::arguments::NoWords;
 use crate::origin::Origin;
 use command_line::{WordsError, is_explain};
-use image_check::check;
 use program_streams::Held;
-use rom_commands::{Failure, Status, report};
-use rom_faults::{CheckError, Fault};
-use rom_fields::{ByteWrite, Plain};
-use rom_tree::Limits;
+use rom_commands::{Ending, Status, report};
+use rom_faults::Fault;
+use rom_fields::Plain;
 use sentences::reasons::NO_WORD;
 use sentences::words::escaped;
 use sentences::{call_sentence, ending_sentence, fault_sentence, image};
@@ -57,32 +55,31 @@ fn is_set(rt: &HostRuntime) -> bool {
     }
 }
 
-/// Whether a line of standard error reports that standard output failed since nobody reads it any
-/// more, by the number of the last error. Then nothing is explained.
-fn is_left(said: &[u8]) -> bool {
-    said == b"write fault\n".as_slice() && last_error().raw_os_error() == Some(NO_READER)
+/// Whether standard output failed since nobody reads it any more, by the number of the last error.
+/// Then nothing is explained.
+fn is_left(ending: Ending<'_>) -> bool {
+    ending == Ending::WriteFault && last_error().raw_os_error() == Some(NO_READER)
 }
 
-/// The explanation of a line of standard error.
-fn ending_of(said: &[u8]) -> Option<&'static str> {
-    let line = said.strip_suffix(b"\n")?;
-    match line.strip_prefix(b"err ") {
-        Some(name) => call_sentence(name),
-        None => ending_sentence(line),
+/// The sentence of an ending, if it has one. The sentence of a fault needs the image.
+fn sentence_of(ending: Ending<'_>) -> Option<&'static str> {
+    match ending {
+        Ending::Memory => ending_sentence(b"memory"),
+        Ending::ReadFault => ending_sentence(b"read fault"),
+        Ending::WriteFault => ending_sentence(b"write fault"),
+        Ending::TooManyReads => ending_sentence(b"too many reads"),
+        Ending::NoFile(error) => call_sentence(error.name()),
+        _ => None,
     }
 }
 
-/// What a line of standard error is about: memory, a standard stream, or otherwise the file of this
-/// path.
-fn place_of<'a>(said: &[u8], path: &'a [u8]) -> &'a [u8] {
-    if said == b"memory\n".as_slice() {
-        b"memory"
-    } else if said == b"read fault\n".as_slice() || said == b"too many reads\n".as_slice() {
-        b"stdin"
-    } else if said == b"write fault\n".as_slice() {
-        b"stdout"
-    } else {
-        path
+/// What an ending is about: memory, a standard stream, or otherwise the file of this path.
+fn place_of<'a>(ending: Ending<'_>, path: &'a [u8]) -> &'a [u8] {
+    match ending {
+        Ending::Memory => b"memory",
+        Ending::ReadFault | Ending::TooManyReads => b"stdin",
+        Ending::WriteFault => b"stdout",
+        _ => path,
     }
 }
 
@@ -129,31 +126,46 @@ impl<'a> Reporter<'a> {
         Ok(())
     }
 
-    /// Reports why a command did not do what was asked for, by one write.
-    pub fn say(&self, failure: Failure<'_>) -> Status
-        ensures { result ≡ failure_status failure.entry }
+    /// Reports how a command ended, by one write, and explains it.
+    pub fn say(&self, ending: Ending<'_>) -> Status
+        ensures { result ≡ status_of ending.entry }
     {
         let mut err = Plain::new(Held::new(self.rt.alloc(), self.rt.stderr()));
-        let status = report(failure, &mut err);
-        self.hand_on(err);
+        let status = report(ending, &mut err);
+        self.finish(err, ending, b"");
         status
     }
 
-    /// Writes what a command held back for standard error, and explains it.
-    pub fn hand_on<X: Write + Drop>(&self, err: Plain<Held<X>>) {
-        self.hand_on_about(err, b"stdout");
-    }
-
-    /// Does the same for a command that is about the file of this path in an image.
-    pub fn hand_on_about<X: Write + Drop>(&self, err: Plain<Held<X>>, path: &[u8]) {
+    /// Writes what a command held back for standard error, and explains how it ended. The path is
+    /// that of the file in an image that the command was about. A fault is not explained here.
+    pub fn finish<X: Write + Drop>(&self, err: Plain<Held<X>>, ending: Ending<'_>, path: &[u8]) {
         let mut held = err.into_inner();
-        let (ending, place) = (ending_of(held.held()), place_of(held.held(), path));
-        let is_left = is_left(held.held());
+        let is_left = is_left(ending);
         let _ = held.flush();
-        if let Some(sentence) = ending
+        if let Some(sentence) = sentence_of(ending)
             && !is_left
         {
-            self.explain(place, &sentence);
+            self.explain(place_of(ending, path), &sentence);
+        }
+    }
+
+    /// Does the same for a command on the image in the file of this name, and explains the image's
+    /// fault if it has one. Its bytes are all that were read, or the first ones.
+    pub fn finish_image<X: Write + Drop>(
+        &self,
+        err: Plain<Held<X>>,
+        ending: Ending<'_>,
+        name: &[u8],
+        bytes: &[u8],
+    ) {
+        self.finish(err, ending, name);
+        self.explain_ending(ending, name, bytes);
+    }
+
+    /// Explains the fault with which a command on the image in the file of this name ended.
+    pub fn explain_ending(&self, ending: Ending<'_>, name: &[u8], bytes: &[u8]) {
+        if let Ending::Fault { fault, .. } = ending {
+            self.explain_fault(name, bytes, fault);
         }
     }
 
@@ -161,7 +173,7 @@ impl<'a> Reporter<'a> {
     pub fn failed<W: Display>(&self, name: &[u8], why: &W) -> Status
         ensures { result ≡ Status.Failed }
     {
-        let status = self.say(Failure::File(name));
+        let status = self.say(Ending::File(name));
         self.explain(name, why);
         status
     }
@@ -170,7 +182,7 @@ impl<'a> Reporter<'a> {
     pub fn changed<W: Display>(&self, name: &[u8], why: &W) -> Status
         ensures { result ≡ Status.Failed }
     {
-        let status = self.say(Failure::Changed);
+        let status = self.say(Ending::Changed);
         self.explain(name, why);
         status
     }
@@ -180,7 +192,7 @@ impl<'a> Reporter<'a> {
         ensures { result ≡ Status.Failed }
     {
         if e.kind() == io::ErrorKind::OutOfMemory {
-            return self.say(Failure::Memory);
+            return self.say(Ending::Memory);
         }
         self.failed_by(name, e)
     }
@@ -189,7 +201,7 @@ impl<'a> Reporter<'a> {
     pub fn failed_by(&self, name: &[u8], e: &io::Error) -> Status
         ensures { result ≡ Status.Failed }
     {
-        let status = self.say(Failure::File(name));
+        let status = self.say(Ending::File(name));
         if self.is_explained
             && let Ok(words) = self.words_of(e)
         {
@@ -204,9 +216,9 @@ impl<'a> Reporter<'a> {
     {
         let name = origin.source(number);
         if e.kind() == io::ErrorKind::OutOfMemory {
-            return self.say(Failure::Memory);
+            return self.say(Ending::Memory);
         }
-        let status = self.say(Failure::File(name));
+        let status = self.say(Ending::File(name));
         self.explain_error(origin, number, e);
         status
     }
@@ -250,23 +262,6 @@ impl<'a> Reporter<'a> {
         }
     }
 
-    /// Explains which fault the image in a file has, if it has one. Returns whether words are asked
-    /// for and the image has no fault.
-    pub fn explain_image(&self, name: &[u8], bytes: &[u8]) -> bool {
-        self.is_explained && !self.try_explain_image(name, bytes).unwrap_or(true)
-    }
-
-    /// Explains the fault if there is one, and returns whether there is one.
-    fn try_explain_image(&self, name: &[u8], bytes: &[u8]) -> Result<bool, AllocError> {
-        match check(self.rt.alloc(), bytes, Limits::usual()) {
-            Err(CheckError::Fault { number, at }) => {
-                self.try_explain_fault(name, bytes, Fault { number, at })?;
-                Ok(true)
-            }
-            _ => Ok(false),
-        }
-    }
-
     /// Explains which fault a file has, by all its bytes or by its first ones.
     pub fn explain_fault(&self, name: &[u8], bytes: &[u8], fault: Fault) {
         if self.is_explained {
@@ -284,27 +279,12 @@ impl<'a> Reporter<'a> {
         self.try_explain(name, &what)
     }
 
-    /// Explains the fault of the first of some images that has one.
-    pub fn explain_images(&self, names: &[&str], files: &[Vec<u8>]) {
-        if !self.is_explained {
-            return;
-        }
-        for (name, file) in names.iter().zip(files) {
-            if self
-                .try_explain_image(name.as_bytes(), file)
-                .unwrap_or(false)
-            {
-                return;
-            }
-        }
-    }
-
     /// Reports that a word of the command line cannot be read.
     pub fn refused_word(&self, wrong: NoWords) -> Status {
         match wrong {
-            NoWords::OutOfMemory => self.say(Failure::Memory),
+            NoWords::OutOfMemory => self.say(Ending::Memory),
             NoWords::NoText(number) => {
-                let status = self.say(Failure::Usage);
+                let status = self.say(Ending::Usage);
                 if self.is_explained
                     && let Ok(place) = format!(in self.rt.alloc(); "word:{number}")
                 {
@@ -318,9 +298,9 @@ impl<'a> Reporter<'a> {
     /// Reports that the words ask for nothing, and why; if clap refused the words, in clap's text.
     pub fn refused_words(&self, error: WordsError<'_>) -> Status {
         if matches!(error, WordsError::OutOfMemory) {
-            return self.say(Failure::Memory);
+            return self.say(Ending::Memory);
         }
-        let status = self.say(Failure::Usage);
+        let status = self.say(Ending::Usage);
         if self.is_explained
             && let Ok(text) = format!(in self.rt.alloc(); "{error}")
         {

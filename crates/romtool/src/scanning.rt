@@ -6,7 +6,7 @@ use build_commands::{Found, put_scan};
 use command_line::Scan;
 use directory_walk::Entry;
 use program_streams::Again;
-use rom_commands::{Failure, Status};
+use rom_commands::{Ending, Status};
 use rom_fields::{Failed, Plain};
 use std::alloc::{AllocError, AllocFailed, Global};
 use std::fs::{FileType, Metadata};
@@ -120,7 +120,7 @@ fn all_below(
     all_stayed(reporter, scan.directory, &walked.directories)?;
     match found_of(reporter.rt.alloc(), walked.entries) {
         Ok(found) => Ok(found),
-        Err(_) => Err(reporter.say(Failure::Memory)),
+        Err(_) => Err(reporter.say(Ending::Memory)),
     }
 }
 
@@ -134,13 +134,13 @@ pub fn run(reporter: &Reporter<'_>, scan: Scan<'_>) -> Status {
         Err(status) => return status,
     };
     let Ok(out) = BufWriter::new(reporter.rt.alloc(), Again::new(io::writer(reporter.rt))) else {
-        return reporter.say(Failure::Memory);
+        return reporter.say(Ending::Memory);
     };
     match put_scan(&mut Plain::new(out), base(directory).len(), &found) {
         Ok(()) => {
             passed.explain(reporter, directory);
             Status::Done
         }
-        Err(Failed) => reporter.say(Failure::WriteFault),
+        Err(Failed) => reporter.say(Ending::WriteFault),
     }
 }

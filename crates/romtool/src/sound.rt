@@ -9,18 +9,13 @@ use crate::reading;
 use crate::reporter::Reporter;
 use image_check::{AnyImage, check};
 use image_load::{Found, Loaded};
-use program_streams::Held;
-use rom_commands::{Failure, Status, complain_of_fault};
+use rom_commands::{Ending, Status};
 use rom_faults::{CheckError, Fault};
-use rom_fields::Plain;
 use rom_tree::Limits;
 
 /// Reports on standard error which fault a file has, by its bytes.
 fn say_fault(reporter: &Reporter<'_>, name: &str, bytes: &[u8], fault: Fault) -> Status {
-    let rt = reporter.rt;
-    let mut err = Plain::new(Held::new(rt.alloc(), rt.stderr()));
-    let status = complain_of_fault(fault, &mut err);
-    reporter.hand_on(err);
+    let status = reporter.say(Ending::Fault { fault, image: None });
     reporter.explain_fault(name.as_bytes(), bytes, fault);
     status
 }
@@ -62,7 +57,7 @@ pub fn checked<'a>(
 {
     match check(reporter.rt.alloc(), bytes, Limits::usual()) {
         Ok(image) => Ok(image),
-        Err(CheckError::OutOfMemory) => Err(reporter.say(Failure::Memory)),
+        Err(CheckError::OutOfMemory) => Err(reporter.say(Ending::Memory)),
         Err(CheckError::Fault { number, at }) => {
             Err(say_fault(reporter, name, bytes, Fault { number, at }))
         }

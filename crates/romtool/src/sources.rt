@@ -6,7 +6,7 @@ use crate::origin::Origin;
 use crate::reporter::Reporter;
 use crate::stamp::{Stamp, stamp_of};
 use manifest::Name;
-use rom_commands::{Failure, Status};
+use rom_commands::{Ending, Status};
 use sentences::reasons::NO_TEXT;
 use std::alloc::AllocError;
 use std::{io, str};
@@ -47,10 +47,10 @@ pub fn joined_names(
     let mut names = Vec::new(reporter.rt.alloc());
     for source in sources {
         let Ok(name) = joined(reporter.rt, directory, source.as_bytes()) else {
-            return Err(reporter.say(Failure::Memory));
+            return Err(reporter.say(Ending::Memory));
         };
         if names.push(name).is_err() {
-            return Err(reporter.say(Failure::Memory));
+            return Err(reporter.say(Ending::Memory));
         }
     }
     Ok(names)
@@ -88,7 +88,7 @@ fn explain(reporter: &Reporter<'_>, origin: Origin<'_>, number: usize, why: &Mis
 fn refused(reporter: &Reporter<'_>, origin: Origin<'_>, number: usize, why: &Missing) -> Status {
     match why {
         Missing::NoText => {
-            let status = reporter.say(Failure::File(origin.source(number)));
+            let status = reporter.say(Ending::File(origin.source(number)));
             explain(reporter, origin, number, why);
             status
         }
@@ -158,7 +158,7 @@ pub fn names_of<'m>(
             return Err(say_no_text(reporter, origin, names.len()));
         };
         if names.push(name).is_err() {
-            return Err(reporter.say(Failure::Memory));
+            return Err(reporter.say(Ending::Memory));
         }
     }
     Ok(names)
@@ -178,7 +178,7 @@ pub fn texts_of<'m>(
             return Err(say_no_text(reporter, origin, names.len()));
         };
         if names.push(name).is_err() {
-            return Err(reporter.say(Failure::Memory));
+            return Err(reporter.say(Ending::Memory));
         }
     }
     Ok(names)
@@ -201,7 +201,7 @@ pub fn stamps_of(
             }
         };
         if stamps.push(stamp).is_err() {
-            return Err(reporter.say(Failure::Memory));
+            return Err(reporter.say(Ending::Memory));
         }
     }
     Ok(stamps)
@@ -214,7 +214,7 @@ pub fn sizes_of(reporter: &Reporter<'_>, stamps: &[Stamp]) -> Result<Vec<u64>, S
     let mut sizes = Vec::new(reporter.rt.alloc());
     for stamp in stamps {
         if sizes.push(stamp.len()).is_err() {
-            return Err(reporter.say(Failure::Memory));
+            return Err(reporter.say(Ending::Memory));
         }
     }
     Ok(sizes)

@@ -106,10 +106,10 @@ pub fn explain(reporter: &Reporter<'_>, name: &[u8], bytes: &[u8], asked: Asked)
     let len = bytes.len();
     let what = if matches!(asked, Asked::Map(_)) {
         format!(in alloc;
-            "its files have {contents} bytes and the image {len}, so the map has up to {lines} lines and {most} bytes"
+            "its files have {contents} bytes, and the image has {len}, so the map has up to {lines} lines and {most} bytes"
         )
     } else {
-        format!(in alloc; "its files have {contents} bytes and the image {len}")
+        format!(in alloc; "its files have {contents} bytes, and the image has {len}")
     };
     if let Ok(what) = what {
         reporter.explain(name, &what);

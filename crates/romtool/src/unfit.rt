@@ -4,7 +4,7 @@ use build_commands::changes::{Changes, changes_of};
 use build_commands::inventory::NamedFile;
 use command_line::ScanAll;
 use manifest::Entry;
-use rom_commands::{Failure, Status};
+use rom_commands::{Ending, Status};
 use sentences::words::escaped;
 use std::alloc::{AllocError, Global};
 
@@ -156,9 +156,7 @@ impl Unfit {
         if self.opened.count > 0 {
             let count = counted(alloc, self.opened.count, "name")?;
             let paths = self.opened.shown(alloc)?;
-            let what = format!(in alloc;
-                "{count} not readable by all, and readable by all in {format}: {paths}"
-            )?;
+            let what = format!(in alloc; "{count} newly readable by all in {format}: {paths}")?;
             reporter.explain(place.as_bytes(), &what);
         }
         Ok(())
@@ -168,7 +166,7 @@ impl Unfit {
     pub fn refuse(&self, reporter: &Reporter<'_>, scan: &ScanAll<'_>) -> Status {
         let (owners, groups, modes) = (self.owners, self.groups, self.modes);
         let Ok(line) = format!(in reporter.rt.alloc(); "unfit {owners} {groups} {modes}\n") else {
-            return reporter.say(Failure::Memory);
+            return reporter.say(Ending::Memory);
         };
         reporter.put(line.as_bytes());
         self.explain(reporter, scan);

@@ -10,7 +10,7 @@ use image_check::AnyImage;
 use image_digest::{compare, find_holder, pass_over};
 use inspect_commands::print_verdict;
 use program_streams::{Again, Ahead, Held};
-use rom_commands::{Failure, Status};
+use rom_commands::{Ending, Status};
 use rom_fields::Plain;
 use rom_tree::TreeImage;
 use std::alloc::AllocError;
@@ -56,19 +56,19 @@ fn report(
 {
     let rt = reporter.rt;
     let Ok(out) = BufWriter::new(rt.alloc(), Again::new(io::writer(rt))) else {
-        return reporter.say(Failure::Memory);
+        return reporter.say(Ending::Memory);
     };
     let mut out = Plain::new(out);
     let mut err = Plain::new(Held::new(rt.alloc(), rt.stderr()));
-    let status = print_verdict(image.bytes().len(), found, &mut out, &mut err);
-    reporter.hand_on(err);
-    if status == Status::Refused
+    let ending = print_verdict(image.bytes().len(), found, &mut out, &mut err);
+    reporter.finish(err, ending, b"");
+    if ending == Ending::Warned
         && reporter.is_explained()
         && let Some(at) = found
     {
         let _ = explain(reporter, image, asked, at);
     }
-    status
+    ending.status()
 }
 
 /// Explains where the dump differs.

@@ -15,15 +15,15 @@ fn sentence(number: usize) -> &'static str {
         0 => "no line makes a file, so the image has only an empty root; did the scan fail?",
         1 => "Linux reads the last 4,096 bytes of a file as zeros if its length is a multiple of \
               4,096; append a byte to the source",
-        2 => "Linux gives files that share their contents the mode and the owner of one of them; \
-              write file with the source in place of same",
+        2 => "Linux shows files that share contents with the mode and the owner of one of them; \
+              write a file line with the source instead of same",
         3 => "Linux lists only 127 bytes of a name that has 128; shorten it",
         4 => "Linux finds no name of more than 128 bytes in romfs; shorten it",
         5 => "Linux finds no root after a volume name of more than 143 bytes; shorten it",
-        6 => "Linux keeps no major number above 4095 in romfs; use cramfs, or a lower number",
-        9 => "Linux adds 0555 to the mode of the root in cramfs; give it these bits",
-        10 => "Linux reads a further name's bytes from another offset if the file's own name has \
-               more than 143 bytes; shorten that",
+        6 => "Linux keeps no major number above 4095 in romfs; use a lower number",
+        9 => "Linux adds 0555 to the mode of the root in cramfs; set these bits in the line dir /",
+        10 => "Linux reads a hard link's bytes from a wrong offset if the file's own name has more \
+               than 143 bytes; shorten that name",
         _ => "Linux misreads it",
     }
 }
@@ -101,7 +101,7 @@ pub fn explain_pages(reporter: &Reporter<'_>, plan: &Plan, out: &str) {
     let count = shared_pages(plan);
     if count > 0
         && let Ok(what) = format!(in reporter.rt.alloc();
-            "files at a multiple of 4096 whose last page holds something else, so that Linux copies this page: {count}; romtool linux --advice lists them"
+            "files at a multiple of 4096 whose last page has other data, too, so that Linux copies this page: {count}; romtool linux --advice lists them"
         )
     {
         reporter.explain(out.as_bytes(), &what);

@@ -16,10 +16,10 @@ use Rattle.tree_extract.proofs.Steps.{logs_run, name_run, IsMore, more_none, mor
 use Rattle.tree_extract.proofs.Steps.{fresh_here, step}
 use Rattle.tree_extract.proofs.Rights.{rights_safe, set_step}
 
--- the tree told a kind of this pass
-pub told_rank : (ms : List Member) (k f : ℕ) (r : Kind) → r ≡ kind_at ms k → true ≡ nat_eq (rank r) f
+-- the tree returned a kind of this pass
+pub kind_rank : (ms : List Member) (k f : ℕ) (r : Kind) → r ≡ kind_at ms k → true ≡ nat_eq (rank r) f
     → rank (kind_at ms k) ≡ f
-told_rank ms k f r is fits = subst (λ x. rank x ≡ f) is (eqb-true (rank r) f (sym fits))
+kind_rank ms k f r is fits = subst (λ x. rank x ≡ f) is (eqb-true (rank r) f (sym fits))
 
 rank_none : (k : Kind) → rank k ≡ 0 → k ≡ kind.Directory
 rank_none kind.Directory is = refl
@@ -28,10 +28,10 @@ rank_none (kind.Further first) is = absurd (cc)
 rank_none kind.Symlink is = absurd (cc)
 rank_none kind.Nothing is = absurd (cc)
 
--- the tree told a directory
+-- the tree returned a directory
 pub is_directory : (ms : List Member) (k : ℕ) (r : Kind) → r ≡ kind_at ms k → true ≡ nat_eq (rank r) 0
     → kind_at ms k ≡ kind.Directory
-is_directory ms k r is fits = rank_none (kind_at ms k) (told_rank ms k 0 r is fits)
+is_directory ms k r is fits = rank_none (kind_at ms k) (kind_rank ms k 0 r is fits)
 
 pub some_file : (k : Kind) → is_file k ≡ true → k ≢ kind.Nothing
 some_file kind.Directory file = λ nothing. absurd (cc)
@@ -58,12 +58,13 @@ module _ (known : Option (List ℕ)) (ms ds : List Member) (same : ds ≡ ms) (m
       (free known ms old i members run lt (some_file (kind_at ms i) file) fresh) lt (refl, file)
       (subst (λ (l : List Member). Logs (MakeFile (path_at l i)) r old new) same logs)
 
-  pub file_finished : {A E : Type 0} (r : Result A E) (told : Option (List ℕ)) (old mid new : List Event)
+  pub file_finished : {A E : Type 0} (r : Result A E) (contents : Option (List ℕ)) (old mid new : List Event)
       → IsRun known ms mid → is_file (kind_at ms i) ≡ true → mid ≡ Did (MakeFile (path_at ms i)) ∷ old
-      → Appends known told (bytes_at ms i) → Logs (FinishFile (path_at ds i) told) r mid new → IsRun known ms new
-  file_finished r told old mid new run file made appends logs =
-      logs_run known ms r mid new i (FinishFile (path_at ms i) told) run (old, made) lt (refl, file, appends)
-      (subst (λ (l : List Member). Logs (FinishFile (path_at l i) told) r mid new) same logs)
+      → Appends known contents (bytes_at ms i) → Logs (FinishFile (path_at ds i) contents) r mid new
+      → IsRun known ms new
+  file_finished r contents old mid new run file made appends logs =
+      logs_run known ms r mid new i (FinishFile (path_at ms i) contents) run (old, made) lt (refl, file, appends)
+      (subst (λ (l : List Member). Logs (FinishFile (path_at l i) contents) r mid new) same logs)
 
   -- ---- a further name
 
@@ -123,25 +124,25 @@ module _ (known : Option (List ℕ)) (ms ds : List Member) (same : ds ≡ ms) (m
   pub link_made : {A E : Type 0} (r : Result A E) (f : ℕ) (text : List ℕ) (old new : List Event)
       → IsAt known ms f i old → rank (kind_at ms i) ≡ f → kind_at ms i ≡ kind.Symlink → text ≡ bytes_at ms i
       → Logs (MakeSymlink (path_at ds i) text) r old new → OnOk r (IsAt known ms f (i + 1) new)
-  link_made (Ok v) f text old new place is is_kind told logs =
+  link_made (Ok v) f text old new place is is_kind is_text logs =
       let c : Call = MakeSymlink (path_at ms i) text in
       let safe = free known ms old i members place.run lt (λ nothing. absurd (cc))
       (fresh_here known ms f i old place lt is) in
       let made : IsMade known ms i (Did c ∷ old) =
       subst (IsMadeAs known ms i (Did c ∷ old)) (sym is_kind)
-      (inl (ap (λ (t : List ℕ). Did (MakeSymlink (path_at ms i) t)) (sym told))) in
+      (inl (ap (λ (t : List ℕ). Did (MakeSymlink (path_at ms i) t)) (sym is_text))) in
       subst (IsAt known ms f (i + 1))
       (sym (subst (λ (l : List Member). new ≡ Did (MakeSymlink (path_at l i) text) ∷ old) same logs))
-      (made_by f c old place is safe (refl, is_kind, told) refl made)
-  link_made (Err e) f text old new place is is_kind told logs = tt
+      (made_by f c old place is safe (refl, is_kind, is_text) refl made)
+  link_made (Err e) f text old new place is is_kind is_text logs = tt
 
   pub link_asked : {A E : Type 0} (r : Result A E) (f : ℕ) (text : List ℕ) (old new : List Event)
       → IsAt known ms f i old → rank (kind_at ms i) ≡ f → kind_at ms i ≡ kind.Symlink → text ≡ bytes_at ms i
       → Logs (MakeSymlink (path_at ds i) text) r old new → IsRun known ms new
-  link_asked r f text old new place is is_kind told logs =
+  link_asked r f text old new place is is_kind is_text logs =
       logs_run known ms r old new i (MakeSymlink (path_at ms i) text) place.run
       (free known ms old i members place.run lt (λ nothing. absurd (cc)) (fresh_here known ms f i old place lt is)) lt
-      (refl, is_kind, told) (subst (λ (l : List Member). Logs (MakeSymlink (path_at l i) text) r old new) same logs)
+      (refl, is_kind, is_text) (subst (λ (l : List Member). Logs (MakeSymlink (path_at l i) text) r old new) same logs)
 
   -- a file was made, on top of what was logged for the member before
   file_at : (f : ℕ) (old mid new : List Event) → IsAt known ms f i old → rank (kind_at ms i) ≡ f

@@ -59,14 +59,14 @@ new_has (Refused d ∷ log) c q fresh (inl is) = absurd (cc)
 new_has (Refused d ∷ log) c q fresh (inr has) = new_has log c q fresh has
 
 -- a file that was finished was made
-finished_made : (log : List Event) (p : List ℕ) (told : Option (List ℕ)) → AreSafe log
-    → Has log (Did (FinishFile p told)) → Has log (Did (MakeFile p))
-finished_made [] p told safe has = absurd has
-finished_made (e ∷ log) p told safe (inl is) =
+finished_made : (log : List Event) (p : List ℕ) (contents : Option (List ℕ)) → AreSafe log
+    → Has log (Did (FinishFile p contents)) → Has log (Did (MakeFile p))
+finished_made [] p contents safe has = absurd has
+finished_made (e ∷ log) p contents safe (inl is) =
     let before : (older : List Event) × (log ≡ Did (MakeFile p) ∷ older) =
     subst (λ x. IsSafe log (call_of x)) (sym is) safe.0 in
     inr (subst (λ (l : List Event). Has l (Did (MakeFile p))) (sym before.1) (inl refl))
-finished_made (e ∷ log) p told safe (inr has) = inr (finished_made log p told safe.1 has)
+finished_made (e ∷ log) p contents safe (inr has) = inr (finished_made log p contents safe.1 has)
 
 no_whole : (known : Option (List ℕ)) (log : List Event) (q bytes : List ℕ) → AreSafe log → IsNew log q
     → IsWhole known log q bytes → ⊥

@@ -22,8 +22,8 @@ is_file Nothing = false
 abbrev pub Makes : Option (List ℕ) → List Member → ℕ → Call → Type 0
 Makes fresh ms i (MakeDirectory p) = (p ≡ path_at ms i) × (kind_at ms i ≡ Directory)
 Makes fresh ms i (MakeFile p) = (p ≡ path_at ms i) × (is_file (kind_at ms i) ≡ true)
-Makes fresh ms i (FinishFile p told) =
-    (p ≡ path_at ms i) × (is_file (kind_at ms i) ≡ true) × Appends fresh told (bytes_at ms i)
+Makes fresh ms i (FinishFile p contents) =
+    (p ≡ path_at ms i) × (is_file (kind_at ms i) ≡ true) × Appends fresh contents (bytes_at ms i)
 Makes fresh ms i (MakeName p first) =
     (p ≡ path_at ms i) × (k : ℕ) × (kind_at ms i ≡ Further k) × (first ≡ path_at ms k)
 Makes fresh ms i (MakeSymlink p text) =
@@ -42,7 +42,8 @@ AreOf fresh ms (e ∷ log) = IsOf fresh ms (call_of e) × AreOf fresh ms log
 -- a file was made and finished with these bytes, if they are known
 abbrev pub IsWhole : Option (List ℕ) → List Event → List ℕ → List ℕ → Type 0
 IsWhole fresh log p bytes =
-    (told : Option (List ℕ)) × Appends fresh told bytes × Has log (Did (FinishFile p told))
+    (contents : Option (List ℕ)) × Appends fresh contents bytes
+    × Has log (Did (FinishFile p contents))
 
 abbrev pub IsMadeAs : Option (List ℕ) → List Member → ℕ → List Event → Kind → Type 0
 IsMadeAs fresh ms i log Directory = Has log (Did (MakeDirectory (path_at ms i)))
@@ -61,7 +62,7 @@ IsMade fresh ms i log = IsMadeAs fresh ms i log (kind_at ms i)
 abbrev pub sets_rights : Call → Bool
 sets_rights (MakeDirectory p) = false
 sets_rights (MakeFile p) = false
-sets_rights (FinishFile p told) = false
+sets_rights (FinishFile p contents) = false
 sets_rights (MakeName p first) = false
 sets_rights (MakeSymlink p text) = false
 sets_rights (SetRights p) = true

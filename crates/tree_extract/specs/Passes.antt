@@ -44,8 +44,8 @@ pub record IsAt (known : Option (List ℕ)) (ms : List Member) (f k : ℕ) (log 
 -- a file was made
 abbrev pub IsFileMade : Option (List ℕ) → List Member → ℕ → List Event → List Event → Type 0
 IsFileMade known ms i old new =
-    (told : Option (List ℕ)) × Appends known told (bytes_at ms i)
-    × (new ≡ Did (FinishFile (path_at ms i) told) ∷ Did (MakeFile (path_at ms i)) ∷ old)
+    (contents : Option (List ℕ)) × Appends known contents (bytes_at ms i)
+    × (new ≡ Did (FinishFile (path_at ms i) contents) ∷ Did (MakeFile (path_at ms i)) ∷ old)
 
 -- a further name was made, or a file of its own
 abbrev pub IsNameMade : Option (List ℕ) → List Member → ℕ → ℕ → List Event → List Event → Type 0

@@ -20,7 +20,7 @@ MissesLinks (e ∷ log) q = MissesLink (call_of e) q × MissesLinks log q
 abbrev pub MakesOther : Call → List ℕ → Type 0
 MakesOther (MakeDirectory p) q = p ≢ q
 MakesOther (MakeFile p) q = p ≢ q
-MakesOther (FinishFile p told) q = Unit {0}
+MakesOther (FinishFile p contents) q = Unit {0}
 MakesOther (MakeName p first) q = p ≢ q
 MakesOther (MakeSymlink p text) q = p ≢ q
 MakesOther (SetRights p) q = Unit {0}
@@ -46,7 +46,7 @@ pub record IsFree (log : List Event) (path : List ℕ) : Type 0 where
 abbrev pub IsSafe : List Event → Call → Type 0
 IsSafe log (MakeDirectory p) = IsFree log p
 IsSafe log (MakeFile p) = IsFree log p
-IsSafe log (FinishFile p told) = (older : List Event) × (log ≡ Did (MakeFile p) ∷ older)
+IsSafe log (FinishFile p contents) = (older : List Event) × (log ≡ Did (MakeFile p) ∷ older)
 IsSafe log (MakeName p first) = IsFree log p × IsInside log first
 IsSafe log (MakeSymlink p text) = IsFree log p
 IsSafe log (SetRights p) = IsInside log p × Has log (Did (MakeDirectory p))

@@ -68,7 +68,7 @@ impl Account {
         });
     }
 
-    /// Notes a call and what was answered, and returns this answer.
+    /// Notes a call and its answer, and returns this answer.
     pub fn answer<E: Drop>(
         &mut self,
         asked: Asked,
@@ -76,6 +76,7 @@ impl Account {
         answer: Result<(), E>,
     ) -> Result<(), E>
         requires { 0 < room_of self.old }
+        ensures same { result ≡ answer }
         ensures logged { (ms : List Member) → Logs (call_for ms asked index) result
             (log_of ms self.old) (log_of ms self.new) }
     {

@@ -1,5 +1,5 @@
 //! A directory that a tree is extracted into.
-ghost use Rattle.std.specs.Prelude.{◌≡◌, ◌<◌, ℕ, List, Option, length, IfOk};
+ghost use Rattle.std.specs.Prelude.{◌≡◌, ◌<◌, ℕ, List, Option, length, IfOk, IfSome};
 ghost use Rattle.tree_extract.specs.Log.{Event, MakeDirectory, MakeFile, FinishFile, MakeName};
 ghost use Rattle.tree_extract.specs.Log.{MakeSymlink, SetRights, Logs, LogsName};
 ghost use Rattle.tree_extract.specs.Members.{Member, kind_at, path_at, bytes_at};
@@ -25,6 +25,9 @@ pub trait Directory {
 
     // What is known of the bytes of a new file: that it has none, or nothing.
     ghost fresh: { Option (List ℕ) };
+
+    // The reason why not all was written to a file, if the file has it.
+    ghost reason: { Self.File → Option Self.Error };
 
     /// Makes a directory.
     fn make_directory(&mut self, index: usize) -> Result<(), Self::Error>
@@ -52,8 +55,9 @@ pub trait Directory {
         ensures logged { Logs (FinishFile (path_at (members self.old) index)
             (Self.File.output file).contents) result (log self.old) (log self.new) };
 
-    /// Returns why not all was written to a file.
-    fn unwritten(&self, file: Self::File) -> Self::Error;
+    /// Returns why not all was written to a file: the file's own reason, if it has one.
+    fn unwritten(&self, file: Self::File) -> Self::Error
+        ensures { IfSome (reason file) (λ e. result ≡ e) };
 
     /// Makes a further name of the file at the index `first`, and returns whether the directory can
     /// do that.

@@ -42,7 +42,7 @@ impl Tree for Items<'_> {
     }
 }
 
-/// A file in memory, which tells nothing of its bytes, as a file of the system.
+/// A file in memory, which reports nothing of its bytes, as a file of the system.
 #[derive(Drop)]
 pub struct Silent {
     inner: Plain<Vec<u8>>,
@@ -118,7 +118,7 @@ impl<'a> Simulated<'a> {
 }
 
 impl<'a> Directory for Simulated<'a> {
-    ghost use Rattle.std.specs.Prelude.{None};
+    ghost use Rattle.std.specs.Prelude.{None, Some};
     ghost use Rattle.tree_extract.specs.Accounts.{log_of};
 
     type Error = Failed;
@@ -133,6 +133,8 @@ impl<'a> Directory for Simulated<'a> {
         d.account };
 
     ghost fresh = { None };
+
+    ghost reason = { λ _. Some (record {}) };
 
     fn make_directory(&mut self, index: usize) -> Result<(), Failed> {
         self.ask(Asked::MakeDirectory, index)

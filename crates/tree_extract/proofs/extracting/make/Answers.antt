@@ -1,14 +1,14 @@
 use Rattle.std.proofs.Common.{sym, ◌∙◌}
 use Rattle.tree_extract.proofs.Steps.{fresh_here}
 use Rattle.tree_extract.specs.Passes.{number}
-use Rattle.tree_extract.proofs.Making.{told_rank, free_there, directory_made, directory_asked, link_made, link_asked}
+use Rattle.tree_extract.proofs.Making.{kind_rank, free_there, directory_made, directory_asked, link_made, link_asked}
 use Rattle.tree_extract.proofs.Making.{file_passed, name_passed}
 use Rattle.tree_extract.proofs.extracting.make.Goals as goal
 
 pub make_directory-requires-clause-safe : goal.make_directory-requires-clause-safe
 make_directory-requires-clause-safe g c =
     let ms = g.T.Tree.members c.args.tree.now in
-    let is = told_rank ms c.args.index (number c.args.phase) _ c.kind-kind.ensures c.if-not-is_made_in.ensures in
+    let is = kind_rank ms c.args.index (number c.args.phase) _ c.kind-kind.ensures c.if-not-is_made_in.ensures in
     free_there g.D.Directory.fresh ms _ c.requires.same c.requires.members c.args.index c.requires.within _
     c.requires.place.run (λ nothing. absurd (cc))
     (fresh_here g.D.Directory.fresh ms (number c.args.phase) c.args.index _ c.requires.place c.requires.within is)
@@ -16,7 +16,7 @@ make_directory-requires-clause-safe g c =
 pub make_symlink-requires-clause-safe : goal.make_symlink-requires-clause-safe
 make_symlink-requires-clause-safe g c =
     let ms = g.T.Tree.members c.args.tree.now in
-    let is = told_rank ms c.args.index (number c.args.phase) _ c.kind-kind.ensures c.if-not-is_made_in.ensures in
+    let is = kind_rank ms c.args.index (number c.args.phase) _ c.kind-kind.ensures c.if-not-is_made_in.ensures in
     free_there g.D.Directory.fresh ms _ c.requires.same c.requires.members c.args.index c.requires.within _
     c.requires.place.run (λ nothing. absurd (cc))
     (fresh_here g.D.Directory.fresh ms (number c.args.phase) c.args.index _ c.requires.place c.requires.within is)
@@ -26,7 +26,7 @@ returns-in-Directory-clause-run g c =
     let ms = g.T.Tree.members c.args.tree.now in
     directory_asked g.D.Directory.fresh ms _ c.requires.same c.requires.members c.args.index c.requires.within
     c.make_directory.result (number c.args.phase) _ _ c.requires.place
-    (told_rank ms c.args.index (number c.args.phase) _ c.kind-kind.ensures c.if-not-is_made_in.ensures)
+    (kind_rank ms c.args.index (number c.args.phase) _ c.kind-kind.ensures c.if-not-is_made_in.ensures)
     (sym c.kind-kind.ensures ∙ c.in-Directory.is) c.make_directory.ensures.logged
 
 pub returns-in-Directory-clause-ok : goal.returns-in-Directory-clause-ok
@@ -34,7 +34,7 @@ returns-in-Directory-clause-ok g c =
     let ms = g.T.Tree.members c.args.tree.now in
     directory_made g.D.Directory.fresh ms _ c.requires.same c.requires.members c.args.index c.requires.within
     c.make_directory.result (number c.args.phase) _ _ c.requires.place
-    (told_rank ms c.args.index (number c.args.phase) _ c.kind-kind.ensures c.if-not-is_made_in.ensures)
+    (kind_rank ms c.args.index (number c.args.phase) _ c.kind-kind.ensures c.if-not-is_made_in.ensures)
     (sym c.kind-kind.ensures ∙ c.in-Directory.is) c.make_directory.ensures.logged
 
 pub returns-in-File-clause-ok : goal.returns-in-File-clause-ok
@@ -42,7 +42,7 @@ returns-in-File-clause-ok g c =
     let ms = g.T.Tree.members c.args.tree.now in
     file_passed g.D.Directory.fresh ms _ c.requires.same c.requires.members c.args.index c.requires.within
     c.make_file.result (number c.args.phase) _ _ c.requires.place
-    (told_rank ms c.args.index (number c.args.phase) _ c.kind-kind.ensures c.if-not-is_made_in.ensures)
+    (kind_rank ms c.args.index (number c.args.phase) _ c.kind-kind.ensures c.if-not-is_made_in.ensures)
     (sym c.kind-kind.ensures ∙ c.in-File.is) c.make_file.ensures.ok
 
 pub returns-in-Further-clause-ok : goal.returns-in-Further-clause-ok
@@ -50,7 +50,7 @@ returns-in-Further-clause-ok g c =
     let ms = g.T.Tree.members c.args.tree.now in
     name_passed g.D.Directory.fresh ms _ c.requires.same c.requires.members c.args.index c.requires.within
     c.make_name.result (number c.args.phase) _ _ _ c.requires.place
-    (told_rank ms c.args.index (number c.args.phase) _ c.kind-kind.ensures c.if-not-is_made_in.ensures)
+    (kind_rank ms c.args.index (number c.args.phase) _ c.kind-kind.ensures c.if-not-is_made_in.ensures)
     (sym c.kind-kind.ensures ∙ c.in-Further.is) c.make_name.ensures.ok
 
 pub returns-in-Symlink-clause-run : goal.returns-in-Symlink-clause-run
@@ -58,7 +58,7 @@ returns-in-Symlink-clause-run g c =
     let ms = g.T.Tree.members c.args.tree.now in
     link_asked g.D.Directory.fresh ms _ c.requires.same c.requires.members c.args.index c.requires.within
     c.make_symlink.result (number c.args.phase) _ _ _ c.requires.place
-    (told_rank ms c.args.index (number c.args.phase) _ c.kind-kind.ensures c.if-not-is_made_in.ensures)
+    (kind_rank ms c.args.index (number c.args.phase) _ c.kind-kind.ensures c.if-not-is_made_in.ensures)
     (sym c.kind-kind.ensures ∙ c.in-Symlink.is) c.link_text.ensures c.make_symlink.ensures.logged
 
 pub returns-in-Symlink-clause-ok : goal.returns-in-Symlink-clause-ok
@@ -66,5 +66,5 @@ returns-in-Symlink-clause-ok g c =
     let ms = g.T.Tree.members c.args.tree.now in
     link_made g.D.Directory.fresh ms _ c.requires.same c.requires.members c.args.index c.requires.within
     c.make_symlink.result (number c.args.phase) _ _ _ c.requires.place
-    (told_rank ms c.args.index (number c.args.phase) _ c.kind-kind.ensures c.if-not-is_made_in.ensures)
+    (kind_rank ms c.args.index (number c.args.phase) _ c.kind-kind.ensures c.if-not-is_made_in.ensures)
     (sym c.kind-kind.ensures ∙ c.in-Symlink.is) c.link_text.ensures c.make_symlink.ensures.logged

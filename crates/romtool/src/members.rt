@@ -1,0 +1,132 @@
+//! The members of an image that is extracted: the path of each in the directory, and the mode and
+//! owner of what is made of it.
+ghost use Rattle.std.specs.Prelude.{◌≡◌, ◌<◌, ◌++◌, length, string_bytes, IfOk};
+ghost use Rattle.image_check.specs.Any.{any_view};
+ghost use Rattle.image_extract.specs.Members.{members_in};
+ghost use Rattle.tree_extract.specs.Members.{path_at};
+
+use crate::making::{Owner, Rights};
+use crate::reporter::Reporter;
+use arrayvec::ArrayVec;
+use image_check::AnyImage;
+use image_extract::ImageTree;
+use image_manifest::PATH_MAX;
+use rom_commands::{Ending, Status};
+use rom_tree::Stat;
+use sentences::reasons::{LINK_UNFIT, NAME_UNFIT, NO_TEXT};
+use std::alloc::AllocError;
+use std::{io, str};
+use tree_extract::{Kind, Tree};
+
+/// The most bytes of a name in Linux.
+const LONGEST_NAME: usize = 255;
+
+/// The most bytes of a path, or of a link's text, in Linux.
+const LONGEST_PATH: usize = 4095;
+
+/// The set-user and set-group bits of a mode.
+pub const LENDING: u32 = 0o6000;
+
+/// Returns the text of a link, if the system accepts it.
+///
+/// # Errors
+///
+/// `InvalidFilename` if it is empty or too long, has a zero byte, or is no UTF-8.
+pub fn accepted_text(text: &[u8]) -> io::Result<&str>
+    ensures { IfOk result (λ s. s.now ≡ text.now) }
+{
+    if text.is_empty() || text.len() > LONGEST_PATH || text.contains(&0) {
+        return Err(io::Error::new(io::ErrorKind::InvalidFilename, LINK_UNFIT));
+    }
+    match str::from_utf8(text) {
+        Ok(text) => Ok(text),
+        Err(_) => Err(io::Error::new(io::ErrorKind::InvalidFilename, LINK_UNFIT)),
+    }
+}
+
+/// An image, and the directory that it is extracted into, without slashes at its end.
+#[derive(Clone, Copy)]
+pub struct Extraction<'a> {
+    pub reporter: &'a Reporter<'a>,
+    pub tree: &'a ImageTree<'a, 'a, AnyImage<'a>>,
+    pub directory: &'a str,
+    /// Whether modes and owners are those of the image.
+    pub owners: bool,
+    /// The bits of a mode that the process's mask removes from new files.
+    pub masked: u32,
+}
+
+impl Extraction<'_> {
+    /// Returns the path of the member at an index, after the directory's.
+    fn named(&self, index: usize) -> Result<Vec<u8>, AllocError>
+        requires { index < length (members_in (any_view self.now.tree.now.image.now)) }
+        ensures { IfOk result (λ v. v.items ≡ self.now.directory.now
+            ++ path_at (members_in (any_view self.now.tree.now.image.now)) index) }
+    {
+        let mut path: ArrayVec<u8, PATH_MAX> = ArrayVec::new();
+        self.tree.path(index, &mut path);
+        let mut name = Vec::new(self.reporter.rt.alloc());
+        name.extend_from_slice(self.directory.as_bytes())?;
+        name.extend_from_slice(path.as_slice())?;
+        Ok(name)
+    }
+
+    /// Returns the path at which the member at an index is made.
+    ///
+    /// # Errors
+    ///
+    /// `OutOfMemory`; `InvalidFilename` if the path is no UTF-8.
+    pub fn place(&self, index: usize) -> io::Result<String>
+        requires { index < length (members_in (any_view self.now.tree.now.image.now)) }
+        ensures { IfOk result (λ p. string_bytes p ≡ self.now.directory.now
+            ++ path_at (members_in (any_view self.now.tree.now.image.now)) index) }
+    {
+        match String::from_utf8(self.named(index)?) {
+            Ok(place) => Ok(place),
+            Err(_) => Err(io::Error::new(io::ErrorKind::InvalidFilename, NO_TEXT)),
+        }
+    }
+
+    /// Returns the mode and owner of what is made of the member at an index.
+    pub fn rights(&self, index: usize) -> Rights
+        requires { index < length (members_in (any_view self.now.tree.now.image.now)) }
+    {
+        let Stat { mode, uid, gid, .. } = self.tree.stat(index);
+        if self.owners {
+            Rights {
+                mode,
+                owner: Some(Owner { uid, gid }),
+            }
+        } else {
+            Rights {
+                mode: mode & !LENDING & !self.masked,
+                owner: None,
+            }
+        }
+    }
+
+    /// Checks that the system accepts the path of the member at an index, and a link's text.
+    pub fn try_name(&self, index: usize) -> io::Result<()>
+        requires { index < length (members_in (any_view self.now.tree.now.image.now)) }
+    {
+        let place = self.place(index)?;
+        let longest = place.split('/').map(str::len).max().unwrap_or(0);
+        if longest > LONGEST_NAME || place.len() > LONGEST_PATH {
+            return Err(io::Error::new(io::ErrorKind::InvalidFilename, NAME_UNFIT));
+        }
+        match self.tree.kind(index) {
+            Kind::Symlink => accepted_text(self.tree.link_text(index)).map(|_| ()),
+            _ => Ok(()),
+        }
+    }
+
+    /// Reports why the member at an index cannot be made, or could not be made.
+    pub fn refused(&self, index: usize, e: &io::Error) -> Status
+        requires { index < length (members_in (any_view self.now.tree.now.image.now)) }
+    {
+        match self.named(index) {
+            Ok(name) => self.reporter.refused(&name, e),
+            Err(_) => self.reporter.say(Ending::Memory),
+        }
+    }
+}
