@@ -366,6 +366,12 @@ def program(name, top, archive, words, counts, over=None):
     return made if compiled(words, counts) else None
 
 
+def has_headers(compiler):
+    """Returns whether a compiler has the headers of a C library."""
+    words = [compiler, "-fsyntax-only", "-xc", "-"]
+    return not subprocess.run(words, input=b"#include <stdio.h>\n", stderr=subprocess.DEVNULL, check=False).returncode
+
+
 def of_aarch64(name, top, archive, counts):
     """Returns a program of c/ for aarch64, as a script that has qemu run it; or nothing."""
     made, script = os.path.join(top, name + "64"), os.path.join(top, name + "64.sh")
@@ -385,6 +391,9 @@ def on_aarch64(binary, top, numbers, counts):
         if not shutil.which(tool):
             counts.skips("the library for aarch64: there is no %s" % tool)
             return
+    if not has_headers("aarch64-linux-gnu-gcc"):
+        counts.skips("the library for aarch64: its compiler has no C library")
+        return
     archive = other_library(["--target", AARCH64], top, counts)
     if not archive:
         return

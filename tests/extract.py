@@ -17,6 +17,7 @@ these are missing. The last line is `N passed, M failed`, with `, K skipped`.
 import collections
 import itertools
 import os
+import re
 import signal
 import stat
 import subprocess
@@ -456,6 +457,39 @@ def each_call_failed(binary):
     print("each_call_failed: %d faults; %s" % (sum(ends.values()), ", ".join(told)))
 
 
+def calls_of(names):
+    """Returns the calls that make these names in a directory, in the order in which `tree_extract` is proved to make them."""
+    folders = [name.path for name in names if name.kind == "d" and name.path != "/"]
+    made, firsts = [("mkdir", path) for path in folders], {}
+    for name in names:
+        if name.kind == "f" and firsts.setdefault(name.number, name) is name:
+            made.append(("openat", name.path))
+            made += [("write", None)] * (name.size > 0) + [("fchmod", None), ("fsync", None), ("close", None)]
+        elif name.kind == "f":
+            made.append(("link", name.path))
+    made += [("symlink", name.path) for name in names if name.kind == "l"]
+    for path in reversed(folders):
+        made += [("openat", path), ("fchmod", None), ("fsync", None), ("close", None)]
+    return made
+
+
+@needs_strace
+def calls_in_order(binary):
+    """In DIR exactly the calls are made that are proved, in this order; a call by a descriptor has no path."""
+    lines = ["dir /d 0755 0 0", "slink /d/a 0777 0 0 /", "dir /d/e 0755 0 0", "file /d/e/f 0644 0 0 4 a"]
+    lines += ["hard /d/g /d/e/f", "pipe /d/p 0644 0 0", "file /h 0644 0 0 4 b", "dir /i 0755 0 0"]
+    build_image(binary, lines, "romfs", [("a", b"text"), ("b", b"")])
+    wanted, made = calls_of(entries(binary, "image")), []
+    for call in traced.calls(binary, "extract", "image", "out")[0]:
+        path = re.findall(r'"([^"]*)"', call.text)[-1:] if call.name in ("mkdir", "openat", "link", "symlink") else [None]
+        if call.name == "unlink":
+            made.clear()  # what was made before is the file that shows the mask
+        elif call.name in [name for name, _ in wanted] and (made or path[0]):
+            made.append((call.name, path[0] and path[0].removeprefix("out")))
+    if made[: len(wanted)] != wanted:
+        yield "%r" % made
+
+
 def lay(there):
     """Makes the directory, or not."""
     if there:
@@ -503,6 +537,8 @@ def memory_refused(binary):
             elif answer(done) != (b"", b"memory\n", 3):
                 yield "allocation %d: %s" % (number, shortly(done))
     print("memory_refused: %d allocations refused" % tried)
+    if not tried:
+        yield "no allocation was refused"
 
 
 def many_files(binary):
@@ -520,7 +556,7 @@ def many_files(binary):
 def links_refused(binary):
     """Only four errors say that there are no further names here: then files of their own are made, and it is said."""
     build_image(binary, ["file /a 0644 0 0 4 s", "hard /b /a"], "romfs", [("s", b"text")])
-    copied = b"romtool: out: further names that are copies here, since this file system makes no further names; a build "
+    copied = b"romtool: out: further names of files, made as copies, since this file system makes no hard links; a build "
     for error in ("EPERM", "EOPNOTSUPP", "EMLINK", "EXDEV", "EIO", "ENOSPC", "EACCES", "EROFS"):
         remove("out")
         done = traced.run(binary, "--explain", "extract", "image", "out", told=traced.inject("link", "error=" + error, 1))
@@ -535,8 +571,8 @@ def further_names_are_told(binary):
     """It is said how many names are further names of a file."""
     build_image(binary, ["file /a 0644 0 0 4 s", "hard /b /a", "hard /c /a", "file /d 0644 0 0 4 s"], "romfs", [("s", b"s")])
     done = run(binary, "--explain", "extract", "image", "out")
-    told = b"romtool: out: further names of files, which share the file only until an editor replaces it; "
-    if done.returncode or done.stderr != told + b"a build reads only the first name: 2\n":
+    told = b"romtool: out: further names of files, made as hard links; some editors replace a link by a separate "
+    if done.returncode or done.stderr != told + b"file, which a build does not read: 2\n":
         yield "%s" % shortly(done)
     if os.stat("out/c").st_nlink != 3 or os.stat("out/d").st_nlink != 1:
         yield "links: %d" % os.stat("out/c").st_nlink
@@ -626,7 +662,7 @@ def many_times_the_image(binary):
     """Files that are many times longer than the image are reported beforehand in words, and made."""
     lines = ["file /a 0644 0 0 4 s"] + ["same /b%d 0644 0 0 /a" % number for number in range(59)]
     build_image(binary, lines, "cramfs", [("s", b"x" * 100000)])
-    told = b"romtool: out: its files have 6000000 bytes, and the image %d\n" % os.path.getsize("image")
+    told = b"romtool: out: its files have 6000000 bytes, and the image has %d\n" % os.path.getsize("image")
     done = run(binary, "--explain", "extract", "image", "out")
     if done.returncode or done.stderr != told or os.path.getsize("out/b58") != 100000:
         yield "%s" % shortly(done)
@@ -662,7 +698,7 @@ def deep_files(depth, length, count):
 
 TESTS = [
     folders_that_are_there, links_that_lead_elsewhere, images_that_are_refused, names_that_no_file_has,
-    images_that_no_manifest_tells, without_rights, owners, output_that_is_not_taken, each_call_failed,
+    images_that_no_manifest_tells, without_rights, owners, output_that_is_not_taken, calls_in_order, each_call_failed,
     memory_refused, many_files, of_cases, links_refused, further_names_are_told, folders_of_another,
     modes_under_a_mask, interrupted, failure_is_told, disks_that_fail_at_close, memory_of_names,
     many_times_the_image,

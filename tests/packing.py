@@ -313,7 +313,7 @@ def strict(tester):
     tester.is_same("strict: no file", os.path.exists(f"{tester.room}/none"), False)
     said = run(["--explain", "scan", "--all", "--owner", "0:0", "--for", "romfs", "strict"])[1]
     changed = "romtool: strict: --for romfs changed 0 owners, 0 groups and 3 modes: /b, /d, /e\n"
-    opened = "romtool: strict: 2 names not readable by all, and readable by all in romfs: /b, /e\n"
+    opened = "romtool: strict: 2 names newly readable by all in romfs: /b, /e\n"
     tester.is_same("what is changed, in words", said, changed + opened)
     said = run(["--explain", "scan", "--all", "--owner", "70000:0", "--for", "cramfs", "strict"])[1]
     changed = "romtool: strict: --for cramfs changed 6 owners, 0 groups and 0 modes: /, /a, /b and 3 more\n"

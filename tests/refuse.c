@@ -2,7 +2,10 @@
  * the first run that does not reach it, that one and all later ones. A growth or a move counts as an
  * allocation. The program is started with this as LD_PRELOAD. With the file REFUSE_TO it runs in copies
  * of the process, made before `main`; each reads the standard input from where it was. The file gets what
- * each run printed, which is removed from its outputs unless REFUSE_KEEPS_OUT is set, and how it ended. */
+ * each run printed, which is removed from its outputs unless REFUSE_KEEPS_OUT is set, and how it ended.
+ *
+ * Without REFUSE_TO it runs once. The allocation with the number REFUSE_AT is refused, and with REFUSE_ALL
+ * all later ones, too. The file REFUSED is made when this allocation is reached. */
 #define _GNU_SOURCE
 #include <dlfcn.h>
 #include <errno.h>
@@ -26,13 +29,18 @@ static void *(*plain_realloc)(void *, size_t);
 static unsigned long refused_at, made;
 static unsigned refuses_later;
 /* whether this run reached it, for the process from which it was copied */
-static volatile unsigned *came_to_it;
+static unsigned reached;
+static volatile unsigned *came_to_it = &reached;
+/* the file that is made when a single run reaches it, or none */
+static const char *mark;
 
 static int refused(void)
 {
     made++;
     if (!refused_at || made < refused_at || (made > refused_at && !refuses_later))
         return 0;
+    if (mark && !*came_to_it)
+        close(open(mark, O_CREAT | O_WRONLY | O_CLOEXEC, 0600));
     *came_to_it = 1;
     errno = ENOMEM;
     return 1;
@@ -128,14 +136,30 @@ static int ended(const struct files *files)
     return status;
 }
 
+/* Has this process refuse what REFUSE_AT, REFUSE_ALL and REFUSED say. */
+static void run_one(void)
+{
+    const char *number = getenv("REFUSE_AT");
+
+    if (!number)
+        return;
+    find_plain();
+    mark = getenv("REFUSED");
+    refuses_later = getenv("REFUSE_ALL") != NULL;
+    made = 0;
+    refused_at = strtoul(number, NULL, 10);
+}
+
 /* Makes the copies, each of which goes on from here as the program, and ends where they all have ended. */
 __attribute__((constructor)) static void run_all(void)
 {
     const char *name = getenv("REFUSE_TO");
     off_t input = lseek(0, 0, SEEK_CUR);
 
-    if (!name)
+    if (!name) {
+        run_one();
         return;
+    }
     find_plain();
     struct files files = {new_file(), new_file(), moved(open(name, O_CREAT | O_TRUNC | O_WRONLY, 0600))};
     came_to_it = mmap(NULL, sizeof *came_to_it, PROT_READ | PROT_WRITE, MAP_SHARED | MAP_ANONYMOUS, -1, 0);

@@ -1,0 +1,150 @@
+#!/usr/bin/env python3
+"""Builds on a file system that says what a crash may leave of OUT, at each moment of a build.
+
+    crash.py [--binary PATH] [--name TEXT]
+
+crash.c, by FUSE, is the file system. Each call of a build that changes something there is refused in turn, before or after it
+was done. At each moment a crash must leave what was at OUT before, or the new image, whole. The tests are skipped if
+FUSE is missing. The last line is `N passed, M failed`, with `, K skipped`.
+"""
+
+import contextlib
+import os
+import subprocess
+import sys
+
+import rooms
+from edge import hello, wanted
+from edge_kept import has_fuse, unmounted
+from files import put, text_of, wait_until
+from harness import HERE, SECONDS
+from romtool import FORMATS, answer, run
+
+OLD = b"what was there before"
+WHEN = ("before", "after")
+# the refusals after which a crash may leave the new image, although the build failed
+UNSURE = (("rename", "after"), ("fsyncdir", "before"), ("fsyncdir", "after"))
+
+
+def compile_server():
+    """Compiles the file system."""
+    flags = subprocess.run(["pkg-config", "--cflags", "--libs", "fuse3"], stdout=subprocess.PIPE, timeout=SECONDS)
+    words = ["cc", "-std=gnu99", "-O1", "-o", "crash", HERE + "/crash.c", *flags.stdout.decode().split()]
+    subprocess.run(words, check=True, timeout=SECONDS)
+
+
+@contextlib.contextmanager
+def mounted(*more):
+    """Provides a directory of the file system, or nothing. Its log, `log`, is about the file `out` there."""
+    os.mkdir("mount")
+    server = subprocess.Popen(["./crash", "mount", "/out", "log", *more], stderr=subprocess.DEVNULL)
+    wait_until(lambda: os.path.ismount("mount") or server.poll() is not None)
+    try:
+        yield "mount" if os.path.ismount("mount") else None
+    finally:
+        unmounted("mount")
+        server.kill()
+        server.wait()
+        os.rmdir("mount")
+
+
+def lay_durable(folder, content):
+    """Writes a file, and synchronizes it and its directory."""
+    put(folder + "/out", content)
+    for path in (folder + "/out", folder):
+        number = os.open(path, os.O_RDONLY)
+        os.fsync(number)
+        os.close(number)
+
+
+class Moment:
+    """A moment of a build: the call after which it is, and what a crash may leave of OUT then."""
+
+    def __init__(self, line):
+        self.call, *left = line.split(" ")
+        self.left = [None if it == "-" else it if it == "torn" else bytes.fromhex(it) for it in left]
+
+
+def built(binary, format, old, *more):
+    """Returns the finished build of `m` over what was at OUT, and its moments; or nothing if nothing can be mounted."""
+    with mounted(*more) as folder:
+        if not folder:
+            return None
+        if old is not None:
+            lay_durable(folder, old)
+        os.mkdir(folder + "/count")
+        done = run(binary, "build", format, "m", folder + "/out")
+        lines = text_of("log").splitlines()
+        return done, [Moment(it) for it in lines[lines.index(next(it for it in lines if it.startswith("count"))) + 1 :]]
+
+
+def wrong_in(moments, old, image):
+    """Yields at which moments a crash may leave something else than what was at OUT before, or the new image."""
+    for number, moment in enumerate(moments):
+        if any(it not in (old, image) for it in moment.left):
+            yield "after %s, call %d: %r" % (moment.call, number + 1, moment.left)
+
+
+def refusals(binary, format, old, image, calls):
+    """Yields what is wrong if each of so many calls is refused, before or after it was done."""
+    for number in range(1, calls + 1):
+        for when in WHEN:
+            done, moments = built(binary, format, old, str(number), when)
+            about = "%s, %r, call %d refused %s" % (format, old, number, when)
+            yield from ("%s: %s" % (about, it) for it in wrong_in(moments, old, image))
+            refused, last = moments[number - 1].call, set(moments[-1].left)
+            if done.returncode not in (0, 3) or (done.returncode == 0) != (b"ok" in done.stdout):
+                yield "%s: %r" % (about, answer(done))
+            if done.returncode == 0 and last != {image}:
+                yield "%s: it ended with 0, but a crash may leave %r" % (about, last)
+            if done.returncode == 3 and last != {old} and (refused, when) not in UNSURE:
+                yield "%s: it ended with 3 after %s, but a crash may leave %r" % (about, refused, last)
+
+
+def crashes(binary):
+    """A crash leaves what was at OUT before or the new image, whole, at each moment, whichever call is refused."""
+    if not has_fuse():
+        yield None
+        return
+    compile_server()
+    hello()
+    for format in FORMATS:
+        image = wanted(binary, format)
+        for old in (None, OLD):
+            whole = built(binary, format, old)
+            if whole is None:
+                yield None
+                return
+            done, moments = whole
+            yield from wrong_in(moments, old, image)
+            if done.returncode or set(moments[-1].left) != {image}:
+                yield "%s, %r: %r, %r" % (format, old, answer(done), moments[-1].left)
+            yield from refusals(binary, format, old, image, len(moments))
+
+
+def crash_without_synchronization(binary):
+    """The file system notices files that are not synchronized: it says of a copy that a crash may leave it torn."""
+    if not has_fuse():
+        yield None
+        return
+    compile_server()
+    with mounted() as folder:
+        if not folder:
+            yield None
+            return
+        put(folder + "/part", b"new")
+        os.rename(folder + "/part", folder + "/out")
+        last = Moment(text_of("log").splitlines()[-1])
+        if last.call != "rename" or last.left != [None, "torn"]:
+            yield "%s: %r" % (last.call, last.left)
+        lay_durable(folder, b"newer")
+        last = Moment(text_of("log").splitlines()[-1])
+        if last.call != "fsyncdir" or last.left != [b"newer"]:
+            yield "%s: %r" % (last.call, last.left)
+
+
+TESTS = [crashes, crash_without_synchronization]
+
+
+if __name__ == "__main__":
+    sys.exit(rooms.main(TESTS, "Build on a file system that says what a crash may leave."))
