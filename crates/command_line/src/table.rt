@@ -63,14 +63,14 @@ const BASE: Word<'static> = Word {
     kind: Kind::Option,
     name: "base",
     shown: "HEX",
-    help: "The address of the image's first byte, in hexadecimal digits with or without 0x; 0 without it",
+    help: "The address of the image's first byte, in hexadecimal digits with or without 0x; the default is 0",
 };
 
 const ALL_EXTENTS: Word<'static> = Word {
     kind: Kind::Flag,
     name: "all",
     shown: "",
-    help: "Prints a line for each extent of the image: every byte has one",
+    help: "Prints a line for each extent of the image, so that every byte is in a line",
 };
 
 const C_HEADER: Word<'static> = Word {
@@ -147,7 +147,7 @@ const OFFSET: Word<'static> = Word {
     kind: Kind::Option,
     name: "offset",
     shown: "N",
-    help: "The offset of the image in the dump, in bytes, such as 4096, 64K or 0x10000; 0 without it",
+    help: "The offset of the image in the dump, in bytes, such as 4096, 64K or 0x10000; the default is 0",
 };
 
 const PATH: Word<'static> = Word {
@@ -196,7 +196,7 @@ const NO_FOLLOW: Word<'static> = Word {
     kind: Kind::Flag,
     name: "no-follow",
     shown: "",
-    help: "Refuses a source whose own name is that of a symbolic link",
+    help: "Refuses a source if the last name of its path is a symbolic link",
 };
 
 const STRICT_BUILD: Word<'static> = Word {
@@ -231,7 +231,7 @@ const DIRECTORIES: Word<'static> = Word {
     kind: Kind::Several,
     name: "folder",
     shown: "DIR",
-    help: "The directory; with --all also several, and files of a later one replace those of earlier ones",
+    help: "The directory; with --all also several: files of a later one replace files of earlier ones",
 };
 
 const ALL: Word<'static> = Word {
@@ -252,7 +252,7 @@ const ALIGN: Word<'static> = Word {
     kind: Kind::Repeated,
     name: "align",
     shown: "[GLOB=]N",
-    help: "With --all: the alignment, 4 to 65536, of files that match, or of programs and libraries",
+    help: "With --all: the alignment (4 to 65536) of files that match GLOB; without GLOB, of programs and libraries",
 };
 
 const OWNER: Word<'static> = Word {
@@ -308,21 +308,21 @@ const STRICT_SCAN: Word<'static> = Word {
     kind: Kind::Flag,
     name: "strict",
     shown: "",
-    help: "With --all: refuses to change attributes to fit FORMAT",
+    help: "With --all: refuses the scan if --for would change attributes",
 };
 
 const INTO: Word<'static> = Word {
     kind: Kind::Value,
     name: "folder",
     shown: "DIR",
-    help: "The directory, which is made, or exists and is empty",
+    help: "The directory; it is made, or has to be empty",
 };
 
 const OWNERS: Word<'static> = Word {
     kind: Kind::Flag,
     name: "owners",
     shown: "",
-    help: "Sets owners and all bits of modes; without it, no set-user or set-group bits",
+    help: "Sets owners and all bits of modes; otherwise, set-user and set-group bits are left out",
 };
 
 /// The subcommands, in the order in which help shows them.
@@ -339,7 +339,7 @@ pub const SUBCOMMANDS: [Subcommand<'static>; 16] = [
     },
     Subcommand {
         name: "info",
-        about: "Prints the facts of an image: its format, volume, sizes, and how many names of each kind",
+        about: "Prints a summary of an image: its format, volume, sizes, and how many names of each kind",
         words: &[IMAGE, SIZE],
     },
     Subcommand {
@@ -349,7 +349,7 @@ pub const SUBCOMMANDS: [Subcommand<'static>; 16] = [
     },
     Subcommand {
         name: "which",
-        about: "Prints what is at addresses of the flash",
+        about: "Prints what is at the given addresses of the flash",
         words: &[IMAGE, BASE, ADDRESSES],
     },
     Subcommand {
@@ -364,7 +364,7 @@ pub const SUBCOMMANDS: [Subcommand<'static>; 16] = [
     },
     Subcommand {
         name: "verify",
-        about: "Reports whether a dump of the flash holds exactly an image",
+        about: "Compares a dump of the flash with an image",
         words: &[IMAGE, DUMP, OFFSET],
     },
     Subcommand {
@@ -379,12 +379,12 @@ pub const SUBCOMMANDS: [Subcommand<'static>; 16] = [
     },
     Subcommand {
         name: "serve",
-        about: "Answers the lines of standard input from an image",
+        about: "Answers requests on standard input about the files of an image",
         words: &[IMAGE],
     },
     Subcommand {
         name: "space",
-        about: "Answers lines from one to eight images, with sessions and mounts",
+        about: "Answers requests about one to eight images, with sessions and mounts",
         words: &[IMAGES],
     },
     Subcommand {

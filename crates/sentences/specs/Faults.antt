@@ -11,9 +11,9 @@ fault_sentence n =
     if n == TOO_MANY then
     codes "the image has more than 1,048,576 references"
     else (if n == SHORT then
-    codes "the file is shorter than a superblock, 32 bytes of romfs or 76 of cramfs"
+    codes "the file is shorter than a superblock, which has 32 bytes in romfs and 76 in cramfs"
     else (if n == MAGIC then
-    codes "the file begins as neither romfs nor cramfs"
+    codes "the first bytes are those of neither romfs nor cramfs"
     else (if n == SIZE then
     codes "the stated size is smaller than a superblock or greater than the file"
     else (if n == SUM then
@@ -21,9 +21,9 @@ fault_sentence n =
     else (if n == FLAGS then
     codes "a flag above 800 (hexadecimal) is set"
     else (if n == CRC then
-    codes "the stored CRC-32 is not that of the bytes"
+    codes "the stored CRC-32 is not the CRC-32 of the bytes"
     else (if n == SIGNATURE then
-    codes "the text Compressed ROMFS is not there"
+    codes "the superblock lacks the text Compressed ROMFS"
     else (if n == ROOT then
     codes "the root is not where the format says, or is not a directory"
     else (if n == BOUNDS then
@@ -33,7 +33,7 @@ fault_sentence n =
     else (if n == BAD_NAME then
     codes "a name is empty, has no end, or contains a slash or a zero byte"
     else (if n == KIND then
-    codes "the upper four bits of a mode name no kind of file"
+    codes "the upper four bits of a mode do not stand for a kind of file"
     else (if n == LINK_SIZE then
     codes "the text of a symbolic link is empty or longer than 4,095 bytes"
     else (if n == BLOCK_KIND then
@@ -43,15 +43,15 @@ fault_sentence n =
     else (if n == TWICE then
     codes "two references lead to one record, or references form a loop"
     else (if n == TOO_DEEP then
-    codes "more than 64 names lead to an entry"
+    codes "the path of an entry has more than 64 names"
     else (if n == OVERLAP then
     codes "two parts of the image share bytes"
     else (if n == DUPLICATE_NAME then
     codes "two entries of one directory have the same name"
     else (if n == DOT then
-    codes ". or .. is where it may not be, or leads to another directory"
+    codes "a name . or .. is not allowed there, or leads to the wrong directory"
     else (if n == HARD_LINK then
-    codes "a hard link leads to nothing, to a directory, or over more than 8 links"
+    codes "a hard link leads to nothing, to a directory, or through more than 8 links"
     else (if n == UNSORTED then
-    codes "a list that has to be sorted has a name that is less than the one before it"
+    codes "in a list that has to be sorted, a name is less than the name before it"
     else codes "no rule has this number"))))))))))))))))))))))

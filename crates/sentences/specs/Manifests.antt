@@ -9,15 +9,15 @@ manifest_sentence n =
     if n == BAD_WORD then
     codes "an unknown word, a wrong number of fields, an empty field, or a nod line with neither b nor c"
     else (if n == BAD_NUMBER then
-    codes "a mode is not four octal digits, or a number not decimal below 2^32"
+    codes "a mode is not four octal digits, or another number is not decimal and below 2^32"
     else (if n == BAD_PATH then
     codes "a path, a link's text or a volume's name is not valid"
     else (if n == NO_PARENT then
-    codes "no earlier line makes the directory that the path is in"
+    codes "no earlier line makes the parent directory of the path"
     else (if n == EXISTS then
-    codes "an earlier line has the path, or names the volume"
+    codes "an earlier line already has this path, or already names the volume"
     else (if n == BAD_ALIGN then
     codes "the alignment is not a power of two from 4 to 65536"
     else (if n == BAD_TARGET then
-    codes "hard or same names a path that is not an earlier file of the right kind"
+    codes "OLD of a hard or same line is not the path of an earlier file of the right kind"
     else codes "no rule has this number"))))))

@@ -13,5 +13,5 @@ misfit_sentence n =
     else (if n == NAME_TOO_LONG then
     codes "a name is longer than the format allows"
     else (if n == HARD_LINK then
-    codes "cramfs has no further names of a file: write same PATH MODE UID GID OLD instead of hard"
+    codes "cramfs has no hard links: write same PATH MODE UID GID OLD instead of hard"
     else codes "no rule has this number")))

@@ -14,7 +14,7 @@ call_sentence text =
     else (if bytes_eq text (codes "ENAMETOOLONG") then
     Some (codes "the path has more than 4,095 bytes, or a name in it more than 255")
     else (if bytes_eq text (codes "EINVAL") then
-    Some (codes "no slash in front, a file of another kind, or a range that is empty or past the end")
+    Some (codes "the path has no slash in front, the file has another kind, or the range is empty or past the end")
     else (if bytes_eq text (codes "EBADF") then
     Some (codes "this descriptor is not open")
     else (if bytes_eq text (codes "EISDIR") then
@@ -22,7 +22,7 @@ call_sentence text =
     else (if bytes_eq text (codes "ENXIO") then
     Some (codes "only directories and regular files can be opened")
     else (if bytes_eq text (codes "EMFILE") then
-    Some (codes "64 files are open, and no more can be")
+    Some (codes "64 files are open, which is the most")
     else (if bytes_eq text (codes "ERANGE") then
     Some (codes "the bytes do not follow one another in the image")
     else (if bytes_eq text (codes "ENODEV") then
@@ -39,7 +39,7 @@ line_sentence text =
     else (if bytes_eq text (codes "bad line") then
     Some (codes "too few or too many words, an empty word, or a line of over 8,191 bytes")
     else (if bytes_eq text (codes "bad number") then
-    Some (codes "a number is not decimal below 2^32, or a read is of more than 4096 bytes")
+    Some (codes "a number is not decimal and below 2^32, or a read asks for more than 4096 bytes")
     else (if bytes_eq text (codes "bad session") then
     Some (codes "the line does not begin with a session, 0 to 7, and a space")
     else None)))

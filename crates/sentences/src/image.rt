@@ -200,7 +200,7 @@ pub fn seen(alloc: Global, bytes: &[u8], number: u32, at: u32) -> Result<String,
             bytes.len()
         ),
         SUM => format!(in alloc; "they sum to {:08x} (hexadecimal)", sum_of(bytes)),
-        FLAGS => format!(in alloc; "they are {:x}", word(bytes, 8).unwrap_or(0)),
+        FLAGS => format!(in alloc; "the flags are {:x}", word(bytes, 8).unwrap_or(0)),
         CRC => crcs(alloc, bytes),
         SIGNATURE => shown(alloc, part(bytes, 16, 16)),
         BLOCK_KIND => one_word(alloc, bytes, at),

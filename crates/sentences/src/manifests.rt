@@ -11,12 +11,14 @@ pub fn manifest_sentence(number: u32) -> &'static str
     match number {
         BAD_WORD =>
             "an unknown word, a wrong number of fields, an empty field, or a nod line with neither b nor c",
-        BAD_NUMBER => "a mode is not four octal digits, or a number not decimal below 2^32",
+        BAD_NUMBER =>
+            "a mode is not four octal digits, or another number is not decimal and below 2^32",
         BAD_PATH => "a path, a link's text or a volume's name is not valid",
-        NO_PARENT => "no earlier line makes the directory that the path is in",
-        EXISTS => "an earlier line has the path, or names the volume",
+        NO_PARENT => "no earlier line makes the parent directory of the path",
+        EXISTS => "an earlier line already has this path, or already names the volume",
         BAD_ALIGN => "the alignment is not a power of two from 4 to 65536",
-        BAD_TARGET => "hard or same names a path that is not an earlier file of the right kind",
+        BAD_TARGET =>
+            "OLD of a hard or same line is not the path of an earlier file of the right kind",
         _ => "no rule has this number",
     }
 }

@@ -44,7 +44,7 @@ pub const OWN_OUTPUT: &str =
 pub const OWN_RULE: &str = "it is also the file of the image";
 
 /// A rule has a name that make cannot read.
-pub const RULE_UNFIT: &str = "make cannot read a name in it; PROTOCOL.md says which names";
+pub const RULE_UNFIT: &str = "make cannot read a name in it; PROTOCOL.md lists such names";
 
 /// A source is a symbolic link, and none is followed.
 pub const SOURCE_LINK: &str = "it is a symbolic link, and --no-follow refuses these";
@@ -56,7 +56,7 @@ pub const NOT_TAKEN: &str = "not all of the image could be written to it";
 pub const NO_TEXT: &str = "a name that is not UTF-8 cannot be opened";
 
 /// A word of the command line is no UTF-8.
-pub const NO_WORD: &str = "it is not UTF-8, as every word has to be";
+pub const NO_WORD: &str = "it is not UTF-8, and every word has to be UTF-8";
 
 /// The name of the part leads to another file.
 pub const PART_REPLACED: &str = "its part was renamed, replaced or removed meanwhile";
@@ -89,7 +89,7 @@ pub const NAME_UNFIT: &str = "a name has at most 255 bytes here, and a whole pat
 
 /// The system does not allow the text of a link.
 pub const LINK_UNFIT: &str =
-    "its text is empty, not UTF-8, has a zero byte, or has over 4095 bytes";
+    "its text is empty or not UTF-8, or has a zero byte or over 4095 bytes";
 
 /// The system refused a part of a file.
 pub const FILE_NOT_TAKEN: &str = "not all of the file could be written";
@@ -107,10 +107,10 @@ pub const FOREIGN_NAME: &str = "a name in it is not UTF-8; ls -b shows it";
 pub const FOREIGN_LINK: &str = "the text of the link is not UTF-8; readlink shows it";
 
 /// A pattern ends within brackets or after a backslash.
-pub const PATTERN_UNFINISHED: &str = "no ] closes its [, or it ends with a backslash";
+pub const PATTERN_UNFINISHED: &str = "it has a [ without its ], or a backslash at its end";
 
 /// A pattern has a class of characters.
-pub const PATTERN_CLASS: &str = "it has a class such as [:alpha:], which a pattern cannot have";
+pub const PATTERN_CLASS: &str = "it has a class such as [:alpha:], and patterns have no classes";
 
 /// At one path, a later directory has a directory and an earlier one has not, or the reverse.
 pub const KINDS_DIFFER: &str = "a directory and another kind of file cannot replace each other";
@@ -129,11 +129,10 @@ pub const DEVICE_WORD: &str = "a file of devices has only dir, slink, nod, pipe 
 
 /// The path of a line in a file of devices exists already.
 pub const DEVICE_EXISTS: &str =
-    "an earlier line has the path, or it is the path of a file and of a directory";
+    "an earlier line already has this path, or a directory and another file have it";
 
 /// The path of a line in a file of devices is in no directory.
-pub const DEVICE_NO_PARENT: &str =
-    "neither a DIR nor a dir line has the directory that the path is in";
+pub const DEVICE_NO_PARENT: &str = "no DIR and no dir line has the parent directory of the path";
 
 /// A path or a text in a file of devices is no UTF-8.
 pub const DEVICE_NO_TEXT: &str = "a path or the text of a link has to be UTF-8 here";

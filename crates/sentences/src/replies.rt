@@ -20,7 +20,7 @@ pub fn call_sentence(text: &[u8]) -> Option<&'static str>
     }
     if text == b"EINVAL".as_slice() {
         return Some(
-            "no slash in front, a file of another kind, or a range that is empty or past the end",
+            "the path has no slash in front, the file has another kind, or the range is empty or past the end",
         );
     }
     if text == b"EBADF".as_slice() {
@@ -33,7 +33,7 @@ pub fn call_sentence(text: &[u8]) -> Option<&'static str>
         return Some("only directories and regular files can be opened");
     }
     if text == b"EMFILE".as_slice() {
-        return Some("64 files are open, and no more can be");
+        return Some("64 files are open, which is the most");
     }
     if text == b"ERANGE".as_slice() {
         return Some("the bytes do not follow one another in the image");
@@ -58,7 +58,9 @@ pub fn line_sentence(text: &[u8]) -> Option<&'static str>
         return Some("too few or too many words, an empty word, or a line of over 8,191 bytes");
     }
     if text == b"bad number".as_slice() {
-        return Some("a number is not decimal below 2^32, or a read is of more than 4096 bytes");
+        return Some(
+            "a number is not decimal and below 2^32, or a read asks for more than 4096 bytes",
+        );
     }
     if text == b"bad session".as_slice() {
         return Some("the line does not begin with a session, 0 to 7, and a space");

@@ -12,8 +12,7 @@ pub fn misfit_sentence(number: u32) -> &'static str
         ATTRIBUTE => "the format cannot hold an owner, a group, a mode or a device's number",
         TOO_LARGE => "a file, a list or the whole image is too large",
         NAME_TOO_LONG => "a name is longer than the format allows",
-        HARD_LINK =>
-            "cramfs has no further names of a file: write same PATH MODE UID GID OLD instead of hard",
+        HARD_LINK => "cramfs has no hard links: write same PATH MODE UID GID OLD instead of hard",
         _ => "no rule has this number",
     }
 }
