@@ -178,7 +178,8 @@ def made_twice(given, top, counts):
     """Makes the release twice, by users with other habits, and returns its directory; nothing if it cannot be made."""
     folders = [top + "/one", top + "/another-one"]
     for it, umask, zone in zip(folders, (0o022, 0o077), ("UTC", "Pacific/Chatham")):
-        how = {"umask": umask, "env": {**os.environ, "TZ": zone}}
+        # after `./test --plain` the program may have to be proved once more
+        how = {"umask": umask, "env": {**os.environ, "TZ": zone}, "timeout": 7200}
         if works(counts, [TOOLS + "/release", "--changed", *given, it], **how) is None:
             return None
     names = [sorted(os.listdir(it)) for it in folders]

@@ -4,7 +4,8 @@
 A small repository is made with edits of each kind, and the gate is run on it. It has to report each edit correctly: one
 that changes a meaning is refused, one that changes nothing is not refused, and one that cannot be made is bad. A
 contract that no call can meet fails its crate. Tests that are proved, and tests that are not, begin from what was
-proved of their crate, and have to be reported correctly, too. The last line is `N passed, M failed`.
+proved of their crate, and have to be reported correctly, too. A program that an earlier run proved has to come with its
+object file. The last line is `N passed, M failed`.
 """
 
 import collections
@@ -174,6 +175,15 @@ fn of_two(rt: HostRuntime) {
     assert!(rt; 1 + 1 == 2);
 }
 """
+PROGRAM = """//! A program that ends with 0.
+#![tactic(auto)]
+
+use std::process::ExitCode;
+
+fn main() -> ExitCode {
+    ExitCode::from(0)
+}
+"""
 OF_COUNT = """use Rattle.std.proofs.Common.{◌≡◌}
 use Rattle.small.proofs.fn.counted.count.Given as goal
 
@@ -256,6 +266,20 @@ def try_gate(counts):
     counts.equal("the gate's status", ran.returncode, 1, ran.stdout)
 
 
+def try_kept_object(counts):
+    """A second run takes a program from the first one, together with the object file that tools/release links once more."""
+    text = PROGRAM + f"// {uuid.uuid4()}\n"
+    files = {"crates.txt": "shown:\n", "HANDLES": FILES["HANDLES"], "crates/shown/src/main.rt": text}
+    for which, is_kept in (("first", False), ("second", True)):
+        with tempfile.TemporaryDirectory(prefix="gate-object-") as top:
+            write_below(top, files)
+            ran = subprocess.run([os.path.join(TOOLS, "gate")], cwd=top, stdout=subprocess.PIPE, stderr=subprocess.STDOUT, text=True)
+            has_object = os.path.isfile(os.path.join(top, "crates/shown/out/shown.o"))
+        said = "rt: shown is kept: " in ran.stdout
+        counts.equal(f"the {which} run takes the program from an earlier one", said, is_kept, ran.stdout)
+        counts.equal(f"the {which} run leaves the object file of the program", has_object, True, ran.stdout)
+
+
 def try_further_edits(counts):
     """Each edit of tests/edits/ can still be applied to its crate, so that tools/edits can try it."""
     rt = kit.loaded()
@@ -311,6 +335,7 @@ def main():
         try_words(counts)
         try_other_kit(counts)
         try_gate(counts)
+        try_kept_object(counts)
     else:
         counts.skips("the gate: the toolchain's rt is not on the path")
     return counts.close()
