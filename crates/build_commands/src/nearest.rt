@@ -14,17 +14,15 @@ pub fn is_executable(mode: u32) -> bool
     mode / 64 % 2 == 1 || mode / 8 % 2 == 1 || mode % 2 == 1
 }
 
-/// The mode that romfs has for a file of a line's kind. Of a directory or a regular file, it keeps
-/// whether the owner, the group or others may execute it; otherwise it keeps nothing.
+/// Returns the mode that romfs has for a file of a line's kind. Of the mode of a directory or a
+/// regular file, it keeps whether the owner, the group or others may execute it; otherwise it keeps
+/// nothing. A `hard` line has no mode of its own, and stays.
 fn mode_in_romfs(word: Word, mode: u32) -> u32
     ensures { result ≡ romfs_mode word mode }
 {
     match word {
-        Word::Dir | Word::File | Word::Same => { if is_executable(mode) { 0o755 } else { 0o644 } }
-        Word::Slink => 0o777,
-        Word::Block | Word::Character => 0o600,
-        Word::Fifo | Word::Socket => 0o644,
         Word::Hard => mode,
+        _ => plan_rows::romfs_mode(word, is_executable(mode)),
     }
 }
 

@@ -35,8 +35,8 @@ image_format (Cramfs s) = cramfs_in (order_in s)
 -- the number of its accessible bytes: the size that the superblock states; or, of a cramfs image
 -- that states none, the number of all bytes, up to 2^28
 abbrev pub size_of : AnyImage → ℕ
-size_of (Romfs s) = full_size s.all.now
-size_of (Cramfs s) = accessible_size (order_in s) s.all.now
+size_of (Romfs s) = full_size (romfs_image_of s).bytes
+size_of (Cramfs s) = accessible_size (order_in s) (cramfs_image_of s).bytes
 
 -- the length of a run: in romfs the rest of the file, in cramfs the rest of its block
 abbrev pub GivesPart : AnyImage → List ℕ → ℕ → Option Run → Type 0

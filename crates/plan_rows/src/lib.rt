@@ -1,6 +1,6 @@
-//! The names of a manifest in a row, each with what it names, and the least misfit of the lines.
-//! `PathTargets` has the line and the contents to which each path leads. `rows` returns the lines
-//! in order, as the rows of a tree. `least_of_lines` returns the least misfit in a format.
+//! The names of a manifest as rows, each with the file that it names; and the least misfit of the
+//! lines. `PathTargets` has the line and the contents to which each path leads. `rows` returns the
+//! lines in order, as the rows of a tree. `least_of_lines` returns the least misfit in a format.
 //!
 //! Proved: the rows are those of the manifest's tree, and each fits a format if no line has a
 //! misfit (`specs/Fits.antt`). `least_of_lines` returns the least misfit of the lines and of the
@@ -30,6 +30,7 @@ pub use depth::deepest;
 pub use files::{PathTargets, SourceUse};
 pub use inodes::root;
 pub use least::least_of_lines;
+pub use lines::romfs_mode;
 pub use misfit::Misfit;
 pub use order::rows;
 pub use plan_types::Format;

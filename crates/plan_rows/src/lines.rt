@@ -20,14 +20,15 @@ use formats::{Capacity, Format};
 use manifest::{Line, Word};
 use memchr::memrchr;
 
-/// Returns the mode that romfs has for the file of a line, with the bit "executable" if its mode is
-/// 0755.
-fn romfs_mode(line: &Line) -> u32
-    ensures { result ≡ mode_named (number_of (kind_by line.now.word)) (line.now.mode == 493) }
+/// Returns the mode that romfs gives to the file that a line with this word makes. Of a mode, romfs
+/// stores only whether a directory or a regular file is executable. (Linux
+/// `Documentation/filesystems/romfs.rst`; the modes are this project's own.)
+pub fn romfs_mode(word: Word, is_executable: bool) -> u32
+    ensures { result ≡ mode_named (number_of (kind_by word)) is_executable }
 {
-    match line.word {
+    match word {
         Word::Dir | Word::File | Word::Hard | Word::Same => {
-            if line.mode == 0o755 { 0o755 } else { 0o644 }
+            if is_executable { 0o755 } else { 0o644 }
         }
         Word::Slink => 0o777,
         Word::Block | Word::Character => 0o600,
@@ -39,7 +40,7 @@ fn romfs_mode(line: &Line) -> u32
 fn has_other_mode(most: &Capacity, line: &Line) -> bool
     ensures { result ≡ has_other_mode most.now (without_bytes line.now) }
 {
-    !most.has_modes && romfs_mode(line) != line.mode
+    !most.has_modes && romfs_mode(line.word, line.mode == 0o755) != line.mode
 }
 
 /// Returns whether an attribute of a line is above what a format can hold, or its mode is another.

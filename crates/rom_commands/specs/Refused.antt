@@ -1,4 +1,5 @@
--- Why not all of several files hold images. (This project's own.)
+-- Why the check of several files stops: the first fault, or refused memory; and what is then
+-- written. (This project's own.)
 use Rattle.std.specs.Prelude.{◌≡◌, ℕ, List, Some}
 use Rattle.rom_fields.specs.Written.{Output}
 use Rattle.rom_faults.specs.declared.fault.Fault as fault

@@ -1,4 +1,5 @@
--- Whether an image fits into a number of bytes: the lines after its facts. (This project's own.)
+-- The lines after an image's facts: whether it fits into a number of bytes, and what is then left.
+-- (This project's own.)
 use Rattle.std.specs.Prelude.{ℕ, ◌-◌, Bool, true, false, not, nat_lt, List, ◌++◌, codes}
 use Rattle.image_check.specs.Any.{size_of}
 use Rattle.image_check.specs.declared.any.AnyImage.{AnyImage}

@@ -66,7 +66,7 @@ pub fn print_file<X: Write, E: ByteWrite>(
     out: &mut Plain<X>,
     err: &mut E,
 ) -> Ending<'static>
-    requires { out.old.failures ≡ 0 }
+    requires { (⟦<Plain<X> as ByteWrite>⟧.output out.old).failures ≡ 0 }
     ensures ends { CopyEnds bytes.now path.now (⟦<Plain<X> as ByteWrite>⟧.output out.old)
         (⟦<Plain<X> as ByteWrite>⟧.output out.new) result }
     ensures handed { IsHandedOn result false (⟦<Plain<X> as ByteWrite>⟧.output out.new) }

@@ -69,7 +69,7 @@ pub fn print<X: Write, E: ByteWrite>(
     out: &mut Plain<X>,
     err: &mut E,
 ) -> Ending<'static>
-    requires fresh { out.old.failures ≡ 0 }
+    requires fresh { (⟦<Plain<X> as ByteWrite>⟧.output out.old).failures ≡ 0 }
     requires fits { Fits asked (length bytes.now) }
     ensures ends { Ends bytes.now asked (⟦<Plain<X> as ByteWrite>⟧.output out.old)
         (⟦<Plain<X> as ByteWrite>⟧.output out.new) result }

@@ -2,6 +2,7 @@
 ghost use Rattle.std.specs.Prelude.{◌≡◌, ◌≤◌, ◌<◌, ℕ, List, Some, length, map, true, IfOk, IfErr};
 ghost use Rattle.path_walk.specs.Graft.{AreShallow};
 ghost use Rattle.image_check.specs.Any.{any_view};
+ghost use Rattle.lookups.specs.Inner.{inner};
 ghost use Rattle.rom_tree.specs.Tree.{IsShallow};
 ghost use Rattle.open_files.specs.Sessions.{no_sessions};
 ghost use Rattle.rom_serve.specs.Machines.{space_machine};
@@ -57,8 +58,8 @@ fn check_all<'a>(
 ) -> Result<Vec<Indexed<'a, AnyImage<'a>>>, NoImage>
     requires { length files.now ≤ 8 }
     ensures held { IfOk result (λ v.
-        HoldAll (map (λ f. f.items) files.now) (map (λ x. any_view x.image) v.items)) }
-    ensures shallow { IfOk result (λ v. AreShallow (map (λ x. any_view x.image) v.items)) }
+        HoldAll (map (λ f. f.items) files.now) (map (λ x. any_view (inner x)) v.items)) }
+    ensures shallow { IfOk result (λ v. AreShallow (map (λ x. any_view (inner x)) v.items)) }
     ensures fault { IfErr result (IsFirst (map (λ f. f.items) files.now)) }
 {
     let mut images = Vec::new(alloc);
@@ -105,11 +106,11 @@ fn serve_all_checked<'a, R: ByteRead, W: ByteWrite>(
     r: &mut R,
     w: &mut W,
 ) -> Ending<'static>
-    requires some { IfOk checked (λ v. 0 < length (map (λ x. any_view x.image) v.items)) }
-    requires few { IfOk checked (λ v. length (map (λ x. any_view x.image) v.items) ≤ 8) }
-    requires shallow { IfOk checked (λ v. AreShallow (map (λ x. any_view x.image) v.items)) }
+    requires some { IfOk checked (λ v. 0 < length (map (λ x. any_view (inner x)) v.items)) }
+    requires few { IfOk checked (λ v. length (map (λ x. any_view (inner x)) v.items) ≤ 8) }
+    requires shallow { IfOk checked (λ v. AreShallow (map (λ x. any_view (inner x)) v.items)) }
     ensures served { IfOk checked.entry (λ v.
-        EndsAnswered (space_machine (map (λ x. any_view x.image) v.items)) (no_sessions 64)
+        EndsAnswered (space_machine (map (λ x. any_view (inner x)) v.items)) (no_sessions 64)
         (input_of (R.remaining r.old) (R.failures r.old))
         (input_of (R.remaining r.new) (R.failures r.new))
         (W.output w.old) (W.output w.new) result) }

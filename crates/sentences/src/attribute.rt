@@ -1,16 +1,22 @@
 //! The attribute of a line that a format cannot hold.
 use formats::Format;
-use manifest::{Line, Word};
+use manifest::Line;
+use plan_rows::romfs_mode;
 use std::alloc::{AllocError, Global};
 
-/// The modes that romfs has for what a line makes.
-fn romfs_modes(line: &Line) -> &'static str {
-    match line.word {
-        Word::Dir | Word::File | Word::Hard | Word::Same => "0644 or 0755",
-        Word::Slink => "0777",
-        Word::Block | Word::Character => "0600",
-        Word::Fifo | Word::Socket => "0644",
+/// Returns the part of the sentence about a mode that romfs cannot store: the mode, the one or two
+/// modes that romfs has for what the line makes, and the option of `scan`.
+///
+/// # Errors
+///
+/// `OutOfMemory`.
+fn mode_seen(alloc: Global, line: &Line, fitted: &str) -> Result<String, AllocError> {
+    let (mode, plain) = (line.mode, romfs_mode(line.word, false));
+    let executable = romfs_mode(line.word, true);
+    if executable == plain {
+        return format!(in alloc; "mode {mode:04o}, romfs has {plain:04o}{fitted}");
     }
+    format!(in alloc; "mode {mode:04o}, romfs has {plain:04o} or {executable:04o}{fitted}")
 }
 
 /// Returns the first attribute of a line that the format cannot hold: its value, the valid values,
@@ -36,8 +42,7 @@ pub fn seen(alloc: Global, format: Format, line: &Line) -> Result<String, AllocE
         }
     }
     if !most.has_modes {
-        let modes = romfs_modes(line);
-        return format!(in alloc; "mode {:04o}, romfs has {modes}{fitted}", line.mode);
+        return mode_seen(alloc, line, fitted);
     }
     Ok(String::new(alloc))
 }

@@ -1,6 +1,7 @@
 use Rattle.std.proofs.Common.{◌≡◌, map, refl, subst, sym, arith}
 use Rattle.std.proofs.lemmas.List.{length-map}
 use Rattle.image_check.specs.Any.{any_view}
+use Rattle.lookups.specs.Inner.{inner}
 use Rattle.open_files.specs.Sessions.{no_sessions}
 use Rattle.rom_fields.specs.Written.{Output}
 use Rattle.rom_serve.specs.Machines.{space_machine}
@@ -13,7 +14,7 @@ use Rattle.rom_commands.proofs.several.serve_all_checked.Goals as goal
 
 pub returns-in-Ok-clause-served : goal.returns-in-Ok-clause-served
 returns-in-Ok-clause-served g c =
-    let m = space_machine (map (λ x. any_view x.image) c.in-Ok.images.items) in
+    let m = space_machine (map (λ x. any_view (inner x)) c.in-Ok.images.items) in
     let r₀ : Input = input_of (g.R.ByteRead.remaining c.args.r.now) (g.R.ByteRead.failures c.args.r.now) in
     let r : Input =
     input_of (g.R.ByteRead.remaining c.serve_space.new.r) (g.R.ByteRead.failures c.serve_space.new.r) in
@@ -36,7 +37,7 @@ returns-in-Err-Fault-clause-unserved g c =
 
 pub serve_space-requires : goal.serve_space-requires
 serve_space-requires g c κs =
-    let l = length-map c.in-Ok.images.items (λ x. any_view x.image) in
+    let l = length-map c.in-Ok.images.items (λ x. any_view (inner x)) in
     let some = rw c.in-Ok.is at c.requires.some in
     let few = rw c.in-Ok.is at c.requires.few in
     ((refl, tt), (omega (arith, l, some), (omega (arith, l, few), rw c.in-Ok.is at c.requires.shallow)))
