@@ -2,13 +2,13 @@
 use crate::directories::{all_stayed, base};
 use crate::lister::{self, Survey};
 use crate::reporter::Reporter;
-use build_commands::{Found, put_scan};
 use command_line::Scan;
+use directory_scan::{PrintError, print_walked};
 use directory_walk::Entry;
 use program_streams::Again;
 use rom_commands::{Ending, Status};
-use rom_fields::{Failed, Plain};
-use std::alloc::{AllocError, AllocFailed, Global};
+use rom_fields::Plain;
+use std::alloc::{AllocError, Global};
 use std::fs::{FileType, Metadata};
 use std::io::{self, BufWriter};
 use std::os::unix::fs::FileTypeExt;
@@ -96,18 +96,6 @@ impl Survey for PassedOver {
     }
 }
 
-/// The entries of a walk, as they are printed.
-fn found_of(alloc: Global, entries: Vec<Entry<bool>>) -> Result<Vec<Found>, AllocFailed<Found>> {
-    let mut found = Vec::new(alloc);
-    for entry in entries {
-        found.push(Found {
-            place: entry.path,
-            is_directory: entry.known,
-        })?;
-    }
-    Ok(found)
-}
-
 /// All files below a directory, each directory before its entries, in the order of the bytes of
 /// paths. Reports a file that cannot be read, and a directory that changed during the scan. A name
 /// that is no UTF-8 is reported for its directory.
@@ -115,32 +103,30 @@ fn all_below(
     reporter: &Reporter<'_>,
     scan: Scan<'_>,
     passed: &mut PassedOver,
-) -> Result<Vec<Found>, Status> {
+) -> Result<Vec<Entry<bool>>, Status> {
     let (_, walked) = lister::all_below(reporter, scan.directory, scan.one_file_system, passed)?;
     all_stayed(reporter, scan.directory, &walked.directories)?;
-    match found_of(reporter.rt.alloc(), walked.entries) {
-        Ok(found) => Ok(found),
-        Err(_) => Err(reporter.say(Ending::Memory)),
-    }
+    Ok(walked.entries)
 }
 
 /// Prints a manifest of the regular files and the directories below a directory, and returns the
 /// status. Nothing is printed if one of the directories cannot be listed.
 pub fn run(reporter: &Reporter<'_>, scan: Scan<'_>) -> Status {
-    let directory = scan.directory;
+    let (directory, alloc) = (scan.directory, reporter.rt.alloc());
     let mut passed = PassedOver::default();
-    let found = match all_below(reporter, scan, &mut passed) {
-        Ok(found) => found,
+    let entries = match all_below(reporter, scan, &mut passed) {
+        Ok(entries) => entries,
         Err(status) => return status,
     };
-    let Ok(out) = BufWriter::new(reporter.rt.alloc(), Again::new(io::writer(reporter.rt))) else {
+    let Ok(out) = BufWriter::new(alloc, Again::new(io::writer(reporter.rt))) else {
         return reporter.say(Ending::Memory);
     };
-    match put_scan(&mut Plain::new(out), base(directory).len(), &found) {
+    match print_walked(alloc, &mut Plain::new(out), base(directory).len(), entries) {
         Ok(()) => {
             passed.explain(reporter, directory);
             Status::Done
         }
-        Err(Failed) => reporter.say(Ending::WriteFault),
+        Err(PrintError::OutOfMemory) => reporter.say(Ending::Memory),
+        Err(PrintError::Failed) => reporter.say(Ending::WriteFault),
     }
 }

@@ -1,0 +1,5 @@
+mod Apart
+mod Fitting
+mod Found
+mod Meant
+mod Ways

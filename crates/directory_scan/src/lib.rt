@@ -1,0 +1,13 @@
+//! A plain scan of a directory: what a walk finds, as the lines of a manifest.
+//!
+//! Proved: if a lister reports a tree, then the manifest that is printed of the entries of its walk
+//! has exactly one line for each file and directory in this tree, in the order of the bytes of
+//! their paths (`specs/Scans.antt`). The names of the tree have to be ones that a manifest accepts.
+#![tactic(auto)]
+
+pub mod laws;
+mod printing;
+#[cfg(test)]
+mod tests;
+
+pub use printing::{PrintError, print_walked};
