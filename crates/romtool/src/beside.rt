@@ -192,6 +192,7 @@ impl Part {
 }
 
 impl System<'_> {
+    ghost use Rattle.std.specs.Prelude.{MatchResult, IfOk, IfErr};
     ghost use Rattle.atomic_file.specs.Accounts.{log_of, room_of, call_of};
 
     /// Creates the file of a part at a path where nothing is. If a file is there again after it was
@@ -323,9 +324,11 @@ impl System<'_> {
         }
     }
 
-    /// Notes a call, and what the system returned.
+    /// Notes a call and what the system returned, and returns the same.
     fn answer(&mut self, asked: Asked, answered: Result<(), KeepError>) -> Result<(), Failed>
         requires { 0 < room_of self.old.beside.account }
+        ensures same { MatchResult answered (λ _. IfErr result (λ _. ⊥))
+            (λ _. IfOk result (λ _. ⊥)) }
         ensures log { Logs (call_of asked) result (log_of self.old.beside.account)
             (log_of self.new.beside.account) }
         ensures room { room_of self.old.beside.account ≤ room_of self.new.beside.account + 1 }
