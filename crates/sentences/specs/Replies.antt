@@ -14,7 +14,7 @@ call_sentence text =
     else (if bytes_eq text (codes "ENAMETOOLONG") then
     Some (codes "the path has more than 4,095 bytes, or a name in it more than 255")
     else (if bytes_eq text (codes "EINVAL") then
-    Some (codes "the path has no slash in front, the file has another kind, or the range is empty or past the end")
+    Some (codes "the path has no slash in front, the file has another kind, the range is empty or past the end, or the image is not mounted")
     else (if bytes_eq text (codes "EBADF") then
     Some (codes "this descriptor is not open")
     else (if bytes_eq text (codes "EISDIR") then

@@ -28,7 +28,7 @@ pub const SOURCE_CHANGED: &str = "it changed while it was read";
 
 /// A read of a source failed, or returned fewer or more bytes than the system reported.
 pub const SOURCE_UNREAD: &str =
-    "it could not be read, or its length is not the one that the system reported";
+    "it could not be read, or its length is not the length that the system reported";
 
 /// A directory changed.
 pub const FOLDER_CHANGED: &str = "it changed while it was scanned";
@@ -41,7 +41,7 @@ pub const OWN_OUTPUT: &str =
     "it is standard output, and the line ok LENGTH would get into the image";
 
 /// The rule has the name of the image.
-pub const OWN_RULE: &str = "it is also the file of the image";
+pub const OWN_RULE: &str = "it is also OUT, the file of the image";
 
 /// A rule has a name that make cannot read.
 pub const RULE_UNFIT: &str = "make cannot read a name in it; PROTOCOL.md lists such names";
@@ -72,7 +72,8 @@ pub const NO_PREFIX: &str =
     "--prefix has to begin with a letter, and to have only letters, digits and _";
 
 /// Linux misreads something in a valid image.
-pub const MISREAD: &str = "it is valid, but Linux misreads what the lines say; see docs/LINUX.md";
+pub const MISREAD: &str =
+    "it is valid, but Linux misreads what these lines name; see docs/LINUX.md";
 
 /// A directory that is to be filled is not empty.
 pub const NOT_EMPTY: &str = "it is not empty";
@@ -129,7 +130,7 @@ pub const DEVICE_WORD: &str = "a file of devices has only dir, slink, nod, pipe 
 
 /// The path of a line in a file of devices exists already.
 pub const DEVICE_EXISTS: &str =
-    "an earlier line already has this path, or a directory and another file have it";
+    "an earlier line already has this path, or a directory and another kind of file have it";
 
 /// The path of a line in a file of devices is in no directory.
 pub const DEVICE_NO_PARENT: &str = "no DIR and no dir line has the parent directory of the path";

@@ -20,7 +20,7 @@ pub fn call_sentence(text: &[u8]) -> Option<&'static str>
     }
     if text == b"EINVAL".as_slice() {
         return Some(
-            "the path has no slash in front, the file has another kind, or the range is empty or past the end",
+            "the path has no slash in front, the file has another kind, the range is empty or past the end, or the image is not mounted",
         );
     }
     if text == b"EBADF".as_slice() {
