@@ -180,8 +180,8 @@ struct romtool_node romtool_lookup(const struct romtool_image *image, const uint
  * other errors are those of romtool_lookup. If no image is open, the budget stays as it is.
  *
  * A component of the path, or of the text of a link, is compared with the names of its directory in their order, up to
- * the one that is equal. `.` and `..` are compared with none. The code reads each at most twice. What else is done is
- * bounded by the bytes of the path and of at most 40 links, each of which has at most 4095. */
+ * the one that is equal. `.` and `..` are compared with no name. The code reads each name at most twice. The rest of a
+ * look-up is bounded by the bytes of the path and of at most 40 links, each of which has at most 4095 bytes. */
 #if ROMTOOL_32
 void rom32_lookup_within(struct romtool_node *answer, const struct romtool_image *image, const uint8_t *path,
     romtool_size len, bool follow, uint64_t *budget);

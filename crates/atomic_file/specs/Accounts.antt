@@ -1,4 +1,5 @@
--- The log that an account is. (This project's own.)
+-- The log that an account means. An account is the code's list of the calls that were made and of
+-- their answers. (This project's own.)
 use Rattle.std.specs.Prelude.{ℕ, ◌-◌, List, [], ◌∷◌, Option, Some, None}
 use Rattle.std.specs.Prelude.{Vec, vec_len, vec_capacity}
 use Rattle.std.specs.declared.alloc.Global.{Global}

@@ -1,5 +1,5 @@
--- What is promised of each moment while a file is replaced, and of its end. `Image` says of the
--- bytes of a file, if they are known, that they are the new ones. (This project's own.)
+-- What is promised of each moment while a file is replaced, and of its end. The parameter `Image`
+-- says that the bytes of a file, if they are known, are the new ones. (This project's own.)
 use Rattle.std.specs.Prelude.{◌≡◌, ◌≢◌, ◌⊎◌, ◌<◌, ◌≤◌, ℕ, suc, List, Option}
 use Rattle.atomic_file.specs.Log.{Remove, SyncDirectory, Event, Refused, Skipped, EndsBy}
 use Rattle.atomic_file.specs.Crashes.{Place, Nothing, Made, Content, Anything, Whole}

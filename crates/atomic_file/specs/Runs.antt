@@ -1,5 +1,5 @@
--- By which calls a run ends. `IsStop`, `IsCause`: an error has its cause: a call was refused, or
--- the bytes were not written, for a reason of the source or of the part. (This project's own.)
+-- The calls with which a run ends. `IsStop`, `IsCause`: the cause of an error. Either a call was
+-- refused, or the source or the part says why the bytes were not written. (This project's own.)
 use Rattle.std.specs.Prelude.{◌≡◌, ◌≢◌, ◌++◌, ⊤, ℕ, List, [], ◌∷◌, Option}
 use Rattle.rom_fields.specs.Written.{Output}
 use Rattle.atomic_file.specs.Log.{Create, Sync, Close, Rename, Remove, SyncDirectory}

@@ -4,9 +4,9 @@
 //!
 //! Proved, for every implementation of `Directory`: at each moment the file is what it was or the
 //! new one, whole, and a crash at each moment leaves it so. At `Ok` it is the new one, and durable
-//! if the directory can be synchronized. After an error it is what it was, except if only the
-//! synchronization of the directory was refused, and the part is removed. No other file is touched.
-//! `specs/Crashes.antt` says what a crash may leave.
+//! if the directory can be synchronized. After an error it is what it was, unless only the
+//! synchronization of the directory was refused. In both cases no part is left, unless its removal
+//! was refused. No other file is touched. `specs/Crashes.antt` says what a crash may leave.
 #![tactic(auto)]
 
 mod account;

@@ -1,7 +1,7 @@
 -- The superblock of a cramfs image, 76 bytes. `order_of`: the byte order in which the bytes begin.
 -- `accessible`: the accessible bytes at the front. `IsSuperblock`: the superblock is well formed,
--- and these are the accessible bytes. `HasImageFault`: the fault of an image as a whole, that of
--- the first test that fails. (Linux include/uapi/linux/cramfs_fs.h and
+-- and these are the accessible bytes. `HasImageFault`: the fault of an image as a whole. It is the
+-- fault of the first test that fails. (Linux include/uapi/linux/cramfs_fs.h and
 -- Documentation/filesystems/cramfs.rst. What is refused is this project's own.)
 --
 --   0 magic, 4 size, 8 flags, 16 signature (16 bytes), 32 crc, 64 the root's inode

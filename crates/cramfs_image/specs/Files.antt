@@ -1,5 +1,5 @@
--- `AddsFiles`: the extents of files were added, each whole block once for each pointer. (This
--- project's own.)
+-- `AddsFiles`: the extents of the files were added, and no others. An extent that files share may
+-- be added only once. (This project's own.)
 use Rattle.std.specs.Prelude.{◌≡◌, ℕ, ◌+◌, ◌-◌, ◌*◌, ◌/◌, ◌%◌, ◌<◌, ◌≤◌, ◌^◌, ◌==◌, max, true, List}
 use Rattle.std.specs.Prelude.{[], ◌∷◌, ◌++◌, length, if◌then◌else◌}
 use Rattle.std.specs.List.{All, Contains, AllByRecursion as Every}

@@ -1,4 +1,5 @@
--- `Rises`: lists in the order of a number of their members. (This project's own.)
+-- `Rises`: a list is in the order of a number that each member has, and no two members have the
+-- same number. (This project's own.)
 use Rattle.std.specs.Prelude.{ℕ, ◌<◌, List}
 use Rattle.record_forest.specs.Members.{Pairs}
 

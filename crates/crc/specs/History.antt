@@ -1,10 +1,11 @@
 -- For private functions of `blocks`. `after_history`: the remainder after some bytes, to which 300
--- earlier bytes have still to be added. `StandsFor`, `TakesIn`: a history stands for a remainder;
--- it becomes another by taking in bytes. (This project's own.)
+-- earlier bytes have still to be added. `StandsFor`, `TakesIn`: a history has the same effect as a
+-- remainder, and becomes another history when it takes in bytes. (This project's own.)
 --
 -- A remainder is that of a polynomial, whose highest powers come first. x^300 + x^155 + x^117 +
--- x^89 + 1 is a multiple of the CRC's, and so is the same in x^8. So a byte may be added (xor) to
--- the bytes 145, 183, 211 and 300 later, and then be taken as zero.
+-- x^89 + 1 is a multiple of the CRC's polynomial, and so is the same polynomial with x^8 in place
+-- of x. So a byte may be added (xor) to the bytes that come 145, 183, 211 and 300 bytes after it,
+-- and then be taken as zero.
 use Rattle.std.specs.Prelude.{◌≡◌, ℕ, zero, suc, ◌-◌, ◌*◌, ◌≤◌, List, ◌++◌, length, drop}
 use Rattle.std.specs.Int.Bits.{bit_xor}
 use Rattle.crc.specs.Crc.{after_bit, after_bytes}

@@ -1,10 +1,11 @@
-//! A walk through all that is below a directory, over any lister of directories. `walk` lists the
-//! directory and each directory that is found, and sorts the entries by the bytes of their paths.
+//! A walk through all that is below a directory. A `Lister` of the caller lists each directory.
+//! `walk` lists the directory and each directory that is found, and sorts the entries by the bytes
+//! of their paths.
 //!
 //! Proved, for every implementation of `Lister`: the entries that a walk finds are exactly those of
 //! the tree that the lister reports, each once, in the order of the bytes of their paths. The
 //! directories that it entered are the first one and those that were found, each once. An error is
-//! one that the lister gave, with the path of the directory that it was asked for.
+//! one that the lister returned, with the path of the directory that it was asked to list.
 #![tactic(auto)]
 
 #[cfg(test)]

@@ -1,5 +1,5 @@
--- `Format`: romfs, or cramfs in a byte order. `format_of`: a format of the code, in these words.
--- `name_of`: the word that names it. (This project's own.)
+-- `Format`: romfs, or cramfs in a byte order. `format_of`: a format of the code as one of these.
+-- `name_of`: the word that names a format of the code. (This project's own.)
 use Rattle.std.specs.Prelude.{ℕ, List, codes}
 use Rattle.cramfs_format.specs.declared.order.Order.{Order}
 use Rattle.cramfs_format.specs.declared.order.Order.TheVariants.{Little, Big}

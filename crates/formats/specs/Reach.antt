@@ -1,6 +1,6 @@
--- `Reaches`: the number of bytes at the front of a file that a check reads, by the first 76.
--- `IsSumRefused`: the front of a file of some length begins a romfs image of a size that the file
--- has, and its sum is wrong. (This project's own.)
+-- `Reaches`: how many bytes at the front of a file a check reads. The first 76 bytes decide this.
+-- `IsSumRefused`: the front of a file begins a romfs image that is not larger than the file, and
+-- the sum of its first words is wrong. (This project's own.)
 use Rattle.std.specs.Prelude.{◌≡◌, ◌≢◌, ℕ, ◌^◌, ◌<◌, ◌≤◌, max, min, if◌then◌else◌, List, length}
 use Rattle.std.specs.Prelude.{take}
 use Rattle.cramfs_format.specs.declared.order.Order.{Order}

@@ -1,5 +1,5 @@
--- `AreAlike`: two trees have the same at each path, and the same paths lead to one node, whatever
--- the numbers and offsets. (This project's own.)
+-- `AreAlike`: at each path two trees have the same file or nothing, and two paths lead to one node
+-- in both or in neither. Numbers and offsets may differ. (This project's own.)
 use Rattle.std.specs.Prelude.{◌≡◌, ◌↔◌, ℕ, List, Some}
 use Rattle.std.specs.Option.{option_map}
 use Rattle.manifest_tree.specs.Shape.{node_under, node_value}

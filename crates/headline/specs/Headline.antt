@@ -1,4 +1,4 @@
--- How an image's bytes are served, and how an image that was built is. (This project's own.)
+-- How an image's bytes are served, and how a built image is served. (This project's own.)
 use Rattle.std.specs.Prelude.{◌≡◌, ℕ, List, map, length, Ok}
 use Rattle.rom_fields.specs.Written.{Output}
 use Rattle.rom_tree.specs.Tree.{Node}

@@ -9,14 +9,14 @@
 //!   manifest means. The same holds for an image that was streamed from files.
 //! - Lent bytes are a slice of the image, at the reported offset.
 //! - An image that is taken apart and built again has a tree like its own.
-//! - A file that is replaced by an image leads, at each moment and after a crash, to what it led to
-//!   before, or to a whole image of the manifest in which a check finds no fault.
+//! - The name of a file that an image replaces leads, at each moment and after a crash, to what it
+//!   led to before, or to a whole image of the manifest in which a check finds no fault.
 //!
 //! `specs/Headline.antt` defines these words, and `specs/Lent.antt` defines what is lent.
 //!
 //! `laws` says which accepted images their manifest describes whole: all, unless a link's text has
 //! a zero byte, a path is too long, or the volume's name is. The tree that the manifest means is
-//! like the image (`specs/Alike.antt`).
+//! like the image's (`specs/Alike.antt`).
 #![tactic(auto)]
 
 pub mod durable;

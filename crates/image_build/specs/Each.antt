@@ -1,6 +1,6 @@
 -- `IsMeantEach`: a tree is what a manifest means, if each `file` and each `same` line has contents
--- of its own. `value_given`: the value of a file then. `IsReadIn`, `AreRead`: these contents are
--- what reads of the line's source answered. (This project's own.)
+-- of its own. `value_given`: the value of a file with such contents. `IsReadIn`, `AreRead`: these
+-- contents are what reads of the line's source answered. (This project's own.)
 use Rattle.std.specs.Prelude.{◌≡◌, ℕ, List, [], ◌++◌, length, Some, ◌↔◌}
 use Rattle.std.specs.Option.{option_map}
 use Rattle.image_stream.specs.Answers.{Answer, AreReads}

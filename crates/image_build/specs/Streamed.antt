@@ -1,8 +1,8 @@
--- `IsPlanOfText`: a plan is that of the manifest that a text is. `form_in`, `stored_in`: the image
--- of a plan before its contents are known, and the checksum, by the format. `image_with`: this
--- image with the given bytes behind the superblock. `HasNoCopies`: no source occurs twice in the
--- image. `IsBuiltOfSome`: bytes are the answer of a build to some contents of the planned sizes.
--- (This project's own.)
+-- `IsPlanOfText`: a text is a manifest, and a plan is the plan of this manifest. `form_in`,
+-- `stored_in`: the image of a plan before its contents are known, and the checksum, by the format.
+-- `image_with`: this image with the given bytes behind the superblock. `HasNoCopies`: no source
+-- occurs twice in the image. `IsBuiltOfSome`: bytes are the answer of a build to some contents of
+-- the planned sizes. (This project's own.)
 use Rattle.std.specs.Prelude.{◌≡◌, ℕ, false, List, map, length, Ok}
 use Rattle.std.specs.List.{AllByRecursion as Every}
 use Rattle.crc.specs.Crc.{crc_of}

@@ -1,8 +1,8 @@
 -- `HasTree`: a tree that one of the formats defines for the bytes. `Shows`: an image value shows
--- this tree. `IsRefused`: the meaning of a refusal: neither format defines one. `HasFormat`: the
+-- this tree. `IsRefused`: the meaning of a refusal: neither format defines a tree. `HasFormat`: the
 -- value is of the format that the first bytes name, and in their byte order. `neither`: the answer
--- to bytes of no format. `IsFaultless`, `IsLeastFaultUnder`: the bytes have no fault of the format
--- with which they begin, or this fault as their least. (This project's own.)
+-- to bytes of no format. `IsFaultless`: the bytes have no fault of the format with which they
+-- begin. `IsLeastFaultUnder`: this is their least fault. (This project's own.)
 use Rattle.std.specs.Prelude.{◌≡◌, ℕ, ◌⊎◌, List, length, if◌then◌else◌, nat_lt}
 use Rattle.formats.specs.Begins.{BeginsRomfs, BeginsCramfs}
 use Rattle.rom_tree.specs.Tree.{Node}

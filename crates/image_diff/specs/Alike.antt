@@ -1,4 +1,4 @@
--- Names of two images that are alike. (This project's own.)
+-- When two nodes of two images are alike, and when two lists of names are. (This project's own.)
 use Rattle.std.specs.Prelude.{◌≡◌, ℕ, Bool, true, List, [], ◌∷◌, Some}
 use Rattle.rom_tree.specs.Listing.{kind_letter}
 use Rattle.rom_tree.specs.Tree.{Node, kind_of}

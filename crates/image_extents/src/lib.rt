@@ -1,7 +1,8 @@
 //! The extents of an image in order of offset: which record has which bytes.
 //!
-//! `specs/Listed.antt` says in which order the records of an image are listed and which paths they
-//! of extents are: one line for each name of an extent, and one for each range between extents.
+//! `specs/Listed.antt` says in which order the records of an image are listed, and which paths they
+//! have. `specs/Lines.antt` says what the lines of extents are: one line for each name of an
+//! extent, and one for each range between extents.
 #![tactic(auto)]
 
 mod collecting;

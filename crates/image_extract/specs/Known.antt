@@ -1,5 +1,5 @@
--- For the proofs: `IsKnown`: a member of the code that is not the root's, and the member at its
--- index of the tree that is extracted. (This project's own.)
+-- For the proofs: `IsKnown`: a member of the code (except the root) agrees with the member at the
+-- same index of the tree that is extracted. (This project's own.)
 use Rattle.std.specs.Prelude.{◌≡◌, ℕ, Some}
 use Rattle.rom_tree.specs.Image.{Image, image_node, contents_of}
 use Rattle.rom_tree.specs.Tree.{Node, kind_of}

@@ -1,5 +1,5 @@
--- `WritesAll`: the endings of the writing of a text, if memory may be refused as well. (This
--- project's own.)
+-- `WritesAll`: how the writing of a text ends. All of it was written, or memory was refused, or a
+-- write failed. (This project's own.)
 use Rattle.std.specs.Prelude.{◌≡◌, ℕ, List, Result, Ok, Err}
 use Rattle.std.specs.Io.KnownBytes.{Appends}
 use Rattle.rom_fields.specs.Failures.{Rose}

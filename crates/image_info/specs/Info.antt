@@ -1,5 +1,5 @@
--- `info_text`: a line for each fact of a valid image, of the superblock, of the check's report, of
--- the names, of the gaps. (The lines are this project's own. The fields are those of Linux
+-- `info_text`: a line for each fact of a valid image: of its superblock, of the check's report, of
+-- its names and of its gaps. (The lines are this project's own. The fields are those of Linux
 -- Documentation/filesystems/romfs.rst, cramfs.rst, and include/uapi/linux/cramfs_fs.h.)
 use Rattle.std.specs.Prelude.{ℕ, List, ◌++◌, codes, decimal}
 use Rattle.rom_fields.specs.Texts.{escaped}

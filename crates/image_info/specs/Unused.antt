@@ -1,4 +1,5 @@
--- `unused`: the number of some bytes that are in none of some extents. (This project's own.)
+-- `unused`: how many of the bytes in a range are in none of the given extents. (This project's
+-- own.)
 use Rattle.std.specs.Prelude.{ℕ, zero, suc, ◌+◌, nat_lt, Bool, false, if◌then◌else◌, List}
 use Rattle.std.specs.List.{list_any}
 use Rattle.rom_fields.specs.declared.span.Span.{Span}

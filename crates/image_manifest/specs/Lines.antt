@@ -1,4 +1,4 @@
--- `member_lines`: the lines of an image's manifest, one for each name in preorder, whose sources
+-- `member_lines`: the lines of an image's manifest, one for each name in preorder. Their sources
 -- are in a directory. `node_line`, `hard_line`: the line of a node at a path, and that of a further
 -- name. (This project's own.)
 use Rattle.std.specs.Prelude.{ℕ, ◌==◌, List, [], ◌∷◌, ◌++◌, find, Option, Some, None, if◌then◌else◌}

@@ -1,6 +1,6 @@
--- For the proofs: the names that are open on the way to a name, and which of them is its directory.
--- `AreOpen`: the ways of the open names. `AreToCome`: the names that are still to come, each below
--- a way that is open before it. (This project's own.)
+-- For the proofs, on a pass through the names in preorder: the open names, one of which is the
+-- directory of the next name. `AreOpen`: the ways to the open names. `AreToCome`: each name that is
+-- still to come is below a way that is open before it. (This project's own.)
 use Rattle.std.specs.Prelude.{◌≡◌, ◌<◌, ℕ, suc, ◌==◌, List, [], ◌∷◌, ◌++◌, length, Option, Some}
 use Rattle.std.specs.Prelude.{None, if◌then◌else◌}
 use Rattle.rom_tree.specs.Names.{Name, path_below}

@@ -1,7 +1,7 @@
 //! A picture of an image in SVG: its extents as rows of addresses.
 //!
-//! `specs/Xml.antt` defines how texts are escaped. Proved: no byte of a text that is put ends that
-//! text (`laws::is_text`). What is drawn is only tested.
+//! `specs/Xml.antt` defines how texts are escaped. Proved: a text that is put has no byte that
+//! could end it, such as `<` or a quote (`laws::is_text`). What is drawn is only tested.
 #![tactic(auto)]
 
 mod bars;

@@ -1,5 +1,5 @@
--- `files`: the files of names, each once. `height`: the depth of the deepest. `Placed`: a file and
--- the offset of its record. (This project's own.)
+-- `files`: the files of names, each once. `height`: the depth of the deepest name. `Placed`: a file
+-- and the offset of its record. (This project's own.)
 use Rattle.std.specs.Prelude.{ℕ, suc, max, List, [], ◌∷◌, ◌++◌}
 use Rattle.manifest_tree.specs.Names.{Inode, Names, nothing, leaf, link, subdirectory}
 

@@ -1,6 +1,6 @@
 -- `misreads_text`: a line for each thing that Linux misreads in a valid image. `Prints`: lines were
--- put, and whether there is one was reported. (The lines are this project's own; docs/LINUX.md has
--- what was seen. Linux fs/romfs/super.c and fs/cramfs/inode.c.)
+-- put, and the result says whether there is any. (The lines are this project's own; docs/LINUX.md
+-- has what was seen. Linux fs/romfs/super.c and fs/cramfs/inode.c.)
 use Rattle.std.specs.Prelude.{ℕ, Bool, true, false, ◌&&◌, ◌||◌, ◌≡◌, ◌==◌, ◌%◌, nat_lt, not}
 use Rattle.std.specs.Prelude.{if◌then◌else◌, List, [], ◌∷◌, ◌++◌, length, codes}
 use Rattle.std.specs.List.{flat_map}

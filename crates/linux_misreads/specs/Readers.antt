@@ -1,4 +1,4 @@
--- The reading of a record by Linux 6.1, in the cases in which it does not keep to the format. Each
+-- How Linux 6.1 reads a record, in the cases in which it does not keep to the format. Each
 -- definition restates a few lines of the function that it names: `romfs_device`, `cramfs_device`,
 -- `listed_len`, `romfs_finds`, `romfs_root`, `romfs_data`, `file_number`, `cramfs_finds`,
 -- `page_filled`, `root_mode`, `read_link`. (Linux include/linux/kdev_t.h, fs/romfs,

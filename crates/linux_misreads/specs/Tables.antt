@@ -1,6 +1,6 @@
--- `is_other_file`: Linux has another file under the number of a node, which is the offset of its
--- table. `AreFirst`: a map has the first file of each number. (Linux fs/cramfs/inode.c, `cramino`
--- and `get_cramfs_inode`.)
+-- `is_other_file`: Linux has another file under the number that it gives to a node. `AreFirst`: a
+-- map has the first file of each number. (Linux fs/cramfs/inode.c, `cramino` and
+-- `get_cramfs_inode`.)
 --
 -- Linux's cramfs numbers a file or a link that is not empty by the offset of its table. It keeps
 -- one file of each number, the first that is looked up.

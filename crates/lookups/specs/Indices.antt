@@ -1,7 +1,7 @@
--- `entries_in`: the list of a directory. `IsKnown`: the answer of its first entries for a name.
--- `IsIndexOf`: the rows are sorted by names, and the first row with a name leads where the list's
--- first entry with the name does. `AreIndices`: each kept index is that of its directory's list.
--- (This project's own.)
+-- `entries_in`: the list of a directory. `IsKnown`: what the first entries of a list answer for a
+-- name. `IsIndexOf`: the rows are sorted by names, and the first row with a name leads to the same
+-- node as the list's first entry with that name. `AreIndices`: each kept index is that of its
+-- directory's list. (This project's own.)
 use Rattle.std.specs.Prelude.{◌≡◌, ℕ, ◌<◌, Bool, List, [], ◌∷◌, Option, Some, None, Vec}
 use Rattle.std.specs.Prelude.{if◌then◌else◌}
 use Rattle.std.specs.BTreeMap.{BTreeMap, get}

@@ -1,5 +1,5 @@
--- `found_in`: the answer of a look-up, as a function of the image. `Remembers`: each answer that is
--- kept is that one. (This project's own.)
+-- `found_in`: the answer of a look-up, as a function of the image. `Remembers`: each kept answer is
+-- the answer of the look-up. (This project's own.)
 use Rattle.std.specs.Prelude.{◌≡◌, ℕ, List, Option, Some, None, Contains}
 use Rattle.rom_tree.specs.Tree.{Node, ino_of, entries_of}
 use Rattle.rom_tree.specs.Image.{Image, image_node, find_entry}

@@ -14,9 +14,9 @@ use std::collections::BTreeMap;
 /// An image that sorts the names of a directory when one of them is first looked up. Each of its
 /// calls answers as the image in it does.
 ///
-/// A look-up goes over at most 17 entries. If they do not answer it, the list is longer than 16
-/// entries, and its index answers, which then keeps 24 bytes an entry. Once memory was refused for
-/// an index, no further index is made, and lists without an index are looked up in the image.
+/// A look-up goes over at most 17 entries. If they do not have the name, and the list has more than
+/// 16 entries, its index answers. The index takes 24 bytes for each entry. Once memory was refused
+/// for an index, no further index is made, and lists without an index are looked up in the image.
 #[derive(Drop)]
 pub struct Indexed<'a, T: Viewed> {
     image: T,

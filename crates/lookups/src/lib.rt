@@ -1,6 +1,6 @@
 //! Faster look-ups of names: two wrappers over any `TreeImage`. `Cached` remembers look-ups, also
 //! those that found nothing. `Indexed` sorts the names of a directory when one of them is first
-//! looked up; a later look-up needs time as the logarithm of the list's length.
+//! looked up; the time of a later look-up grows as the logarithm of the list's length.
 //!
 //! Proved: both answer each call as the image in them does, whichever names or lists they keep,
 //! also after memory was refused. `specs/Remembers.antt` defines the answers that are kept, and

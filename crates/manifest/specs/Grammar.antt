@@ -1,8 +1,8 @@
--- `fields_of`, `line_of`: the fields and the numbers of a line. `fault_of`: its least fault behind
--- earlier lines. `read`: one more line. `manifest_of`: the lines of a text, or its first fault.
--- `IsManifest`: this is the manifest of some text. (This project's own, except the words `dir`,
--- `file`, `slink`, `nod`, `pipe` and `sock`, which are those of gen_init_cpio, Linux
--- usr/gen_init_cpio.c.)
+-- `fields_of`, `line_of`: the fields and the numbers of a line. `fault_of`: the least fault of a
+-- line that follows the given lines. `read`: what is read so far, after one more line.
+-- `manifest_of`: the lines of a text, or its first fault. `IsManifest`: this is the manifest of
+-- some text. (This project's own, except the words `dir`, `file`, `slink`, `nod`, `pipe` and
+-- `sock`, which are those of gen_init_cpio, Linux usr/gen_init_cpio.c.)
 use Rattle.std.specs.Prelude.{◌≡◌, ℕ, ◌+◌, ◌==◌, ◌||◌, ◌&&◌, not, Bool, true, false, if◌then◌else◌}
 use Rattle.std.specs.Prelude.{List, [], ◌∷◌, reverse, codes, Option, Some, None, Result, Ok, Err}
 use Rattle.std.specs.List.{list_any}

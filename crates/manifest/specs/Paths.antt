@@ -1,6 +1,6 @@
--- The paths of a manifest. `names_of`: the names of a path, if a text is one. It begins with a
--- slash, and its names are between its slashes. `parent_of`: the directory that it is in. (This
--- project's own; a slash is the byte 47, and a dot 46.)
+-- The paths of a manifest. A path begins with a slash, and its names are between its slashes.
+-- `names_of`: the names of a path, if a text is a path. `parent_of`: the directory in which a path
+-- is. (This project's own; a slash is the byte 47, and a dot 46.)
 use Rattle.std.specs.Prelude.{ℕ, ◌==◌, ◌||◌, nat_lt, not, Bool, true, false, if◌then◌else◌, List}
 use Rattle.std.specs.Prelude.{[], ◌∷◌, ◌++◌, length, Option, Some, None}
 use Rattle.std.specs.List.{list_any}

@@ -1,7 +1,7 @@
 -- `line_text`, `lines_text`, `manifest_text`: the text of a line, of lines, and of a manifest.
--- `IsSpelled`: the fields of a line can be spelled, and the line has exactly those of its word.
--- `AreTaken`: all lines are so, and the grammar accepts each behind those before it. `as_read`: the
--- lines that are read back. (This project's own.)
+-- `IsSpelled`: the fields of a line can be spelled, and the line has exactly the fields that its
+-- word requires. `AreTaken`: all lines can be spelled, and the grammar accepts each line after the
+-- lines before it. `as_read`: the lines that are read back. (This project's own.)
 use Rattle.std.specs.Prelude.{◌≡◌, ℕ, ◌+◌, ◌^◌, ◌<◌, List, [], ◌∷◌, ◌++◌, false, codes, decimal}
 use Rattle.std.specs.Prelude.{None}
 use Rattle.std.specs.List.{All, join_with_byte}

@@ -1,5 +1,5 @@
--- `composed_of`: the layout of a manifest, composed of its sections: each at its offset, with zeros
--- between them, and the format's check word over all of it. (This project's own.)
+-- `composed_of`: the layout of a manifest, composed of its sections. Each is at its offset, zeros
+-- are between them, and the superblock has the format's checksum. (This project's own.)
 use Rattle.std.specs.Prelude.{map, ℕ, List, length}
 use Rattle.cramfs_layout.specs.Composed as of_cramfs
 use Rattle.cramfs_layout.specs.Layout.{size_of, superblock}

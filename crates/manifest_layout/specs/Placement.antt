@@ -1,9 +1,9 @@
--- `IsPlaced`: each file with the contents of a `file` line has its bytes in one run, from a
--- multiple of its ALIGN on. `AreShared`: files with the contents of one `file` line have them at
+-- `IsPlaced`: each file with the contents of a `file` line has its bytes in one run, which begins
+-- at a multiple of its ALIGN. `AreShared`: files with the contents of one `file` line have them at
 -- the same offsets. `AreApart`: files of different lines have no offset in common. `CopiesStand`:
--- they are shared in cramfs and apart in romfs. `HasVolume`: the volume's name. (This project's
--- own; the offsets of the names are those of Linux Documentation/filesystems/romfs.rst and
--- include/uapi/linux/cramfs_fs.h.)
+-- the contents of such files are shared in cramfs, and apart in romfs. `HasVolume`: the volume's
+-- name. (This project's own; the offsets of the names are those of Linux
+-- Documentation/filesystems/romfs.rst and include/uapi/linux/cramfs_fs.h.)
 use Rattle.std.specs.Prelude.{◌≡◌, ◌≢◌, ℕ, List, ◌∷◌, reverse, take, drop, Some}
 use Rattle.record_forest.specs.Members.{Has}
 use Rattle.rom_tree.specs.Tree.{Node, places_of}
@@ -18,7 +18,7 @@ use Rattle.formats.specs.Format.{Format, romfs, cramfs}
 
 -- A line l of the manifest leads to a regular file, as `file`, `same` and `hard` lines do, and o is
 -- the `file` line whose contents that file has. Then the node at the path of l has its bytes in one
--- run of the image, from a multiple of the ALIGN of o on.
+-- run of the image, which begins at a multiple of the ALIGN of o.
 abbrev pub IsPlaced : Node → ManifestLines → Type 0
 IsPlaced t m =
     (l o : Line) (n : List ℕ) (ns : List (List ℕ)) (x : Node) → Has (λ k. k ≡ l) m.lines

@@ -1,6 +1,7 @@
--- The least misfit of lines and a volume, by computing. `number_of_line`: the least misfit of a
--- line. `of_lines`, `volume_by`: those of lines and of a volume's name. The proofs of this crate
--- show that these tests agree with the conditions of Misfit.antt. (This project's own.)
+-- The least misfit of lines and a volume, as it is computed. `number_of_line`: the least misfit of
+-- a line. `of_lines`, `volume_by`: the least misfit of lines, and that of a volume's name. The
+-- proofs of this crate show that these tests agree with the conditions of Misfit.antt. (This
+-- project's own.)
 use Rattle.std.specs.Prelude.{ℕ, ◌^◌, ◌==◌, ◌||◌, nat_lt, not, Bool, true, false, List, [], ◌∷◌}
 use Rattle.std.specs.Prelude.{Option, Some, None}
 use Rattle.rom_faults.specs.declared.fault.Fault.{Fault}

@@ -1,6 +1,6 @@
 -- `node_under`, `file_under`: the node or file to which the names on a path lead, in a tree and in
--- names. `HasShape`: at each path the same file, and one node at two paths exactly if they are of
--- one line. (This project's own.)
+-- names. `HasShape`: a tree has the same file as the names at each path, and one node at two paths
+-- exactly if both paths lead to one line's file. (This project's own.)
 use Rattle.std.specs.Prelude.{◌≡◌, ℕ, if◌then◌else◌, List, [], ◌∷◌, map, get_or, Option, Some, None}
 use Rattle.std.specs.Prelude.{◌↔◌}
 use Rattle.std.specs.Str.{bytes_eq}

@@ -1,6 +1,6 @@
 -- `file_at`: the file at a path of a manifest, if its sources have these sizes. `tree_of`,
--- `root_of`: the names that it means, and its root. `file_named`: the file of the line with exactly
--- these names. (This project's own.)
+-- `root_of`: the names that a manifest means, and its root. `file_named`: the file of the line with
+-- exactly these names. (This project's own.)
 use Rattle.std.specs.Prelude.{ℕ, ◌+◌, ◌&&◌, nat_lt, Bool, true, false, if◌then◌else◌, List, [], ◌∷◌}
 use Rattle.std.specs.Prelude.{length, reverse, find, get_or, Option, Some, None}
 use Rattle.std.specs.Str.{bytes_eq}

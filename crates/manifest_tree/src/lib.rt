@@ -1,6 +1,6 @@
 //! Definitions and laws: the names and files that a manifest means, and the shape of a tree.
 //!
-//! Proved: the names on a path lead to the file at the path of the line with these names.
+//! Proved: a list of names leads to the file of the line whose path has exactly these names.
 //! `specs/Names.antt` has names and files. `specs/Tree.antt` has those that a manifest means:
 //! `hard` is a further name of a file, and `same` is a file of its own with the contents of
 //! another. `specs/Shape.antt` defines when a tree in an image has the shape of names.

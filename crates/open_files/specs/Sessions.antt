@@ -1,6 +1,7 @@
 -- `mounting`, `unmounting`: the mounts after a change. `session_calls`: the calls of one session,
--- if all sessions share something. `space_calls`: the calls on several images. `no_sessions`:
--- nothing is mounted or open. (This project's own, after Linux's mount(2) and umount(2).)
+-- over its own state and the state that all sessions share. `space_calls`: the calls on several
+-- images. `no_sessions`: nothing is mounted or open. (This project's own, after Linux's mount(2)
+-- and umount(2).)
 use Rattle.std.specs.Prelude.{ℕ, ◌==◌, nat_lt, Bool, true, false, ◌||◌, not, List, [], ◌∷◌, ◌++◌}
 use Rattle.std.specs.Prelude.{length, Some, Result, Ok, Err, if◌then◌else◌}
 use Rattle.rom_tree.specs.Tree.{ino_of, is_directory}

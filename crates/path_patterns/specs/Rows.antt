@@ -1,4 +1,5 @@
--- A predicate at each end of a path. (This project's own.)
+-- Whether a predicate holds for each end of a path, from the empty end to the whole path. (This
+-- project's own.)
 use Rattle.std.specs.Prelude.{ℕ, Bool, List, [], ◌∷◌, ◌++◌}
 
 -- whether the predicate holds for the empty end, and so on up to the whole path

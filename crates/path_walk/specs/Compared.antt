@@ -1,6 +1,7 @@
--- `names_compared`: the number of names that a look-up of a path compares. `IsRefusedBy`: the error
--- of a walk that compares no more names than a budget. `AreTaken`, `AreTooMany`, `Leaves`: what is
--- left of the budget. (This project's own.)
+-- A walk may have a budget of names, and then compares no more names than that. `names_compared`:
+-- the number of names that a look-up of a path compares. `IsRefusedBy`: the error of a walk with a
+-- budget. `AreTaken`, `AreTooMany`, `Leaves`: what a walk leaves of its budget. (This project's
+-- own.)
 --
 -- A component that is looked up in a directory is compared with the names of the directory's
 -- entries, in their order, up to the one that is equal, or with all of them. Dot, dot-dot, and a

@@ -1,7 +1,7 @@
 -- `Namespace`: names and the places to which they lead, over any kind of place. `tree_namespace`: a
 -- tree as a namespace. `step`: the place to which one component leads. `resolve`: the place to
--- which components lead, with a number of links left. `resolution`: the place to which a path leads
--- (POSIX.1-2017, 4.13 "Pathname Resolution").
+-- which components lead, with a limit on the links that may still be followed. `resolution`: the
+-- place to which a path leads (POSIX.1-2017, 4.13 "Pathname Resolution").
 --
 -- As in Linux, path_resolution(7), at most 40 symbolic links are followed, and a link that is the
 -- last component only if the caller asks for it. These are this project's own: the order of the

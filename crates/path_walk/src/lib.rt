@@ -1,6 +1,6 @@
-//! `walk` and `walk_mounts`: the node to which a path leads, or its error; in one image, or in
-//! several that are mounted in one another. `walk_within` does it in one image, and compares no
-//! more names than a budget. No call allocates memory.
+//! `walk` and `walk_mounts` return the node to which a path leads, or the error of the path: in one
+//! image, or in several that are mounted in one another. `walk_within` does the same in one image,
+//! and compares no more names than its budget allows. No call allocates memory.
 //!
 //! Proved, for each `rom_tree::TreeImage` and for up to eight of them: the result is the node to
 //! which the path leads, or the error that it has, and the images do not change. A walk with a

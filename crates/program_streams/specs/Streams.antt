@@ -1,8 +1,8 @@
--- `again_inner` and similar definitions: the stream behind one that is in front of it.
--- `ahead_remaining`: the rest of a reader, if nothing after its end is read. `held_back`,
--- `held_contents`: the bytes that a writer holds back, and the bytes of the writer behind it
--- followed by these. `first_error`, `Remembers`: the first error, which each call keeps or notes.
--- `ReadsFrom`: a buffer has the bytes from a position on. (This project's own.)
+-- `again_inner` and similar definitions: the stream behind a layer. `ahead_remaining`: the rest of
+-- a reader, if nothing after its end is read. `held_back`: the bytes that a layer holds back.
+-- `held_contents`: the bytes of the writer behind it, and then those held back. `first_error`,
+-- `Remembers`: the first error, which each call keeps or notes. `ReadsFrom`: a buffer has the bytes
+-- from a position on. (This project's own.)
 use Rattle.std.specs.Prelude.{◌≡◌, ℕ, ◌<◌, ◌≤◌, if◌then◌else◌, List, [], length, take, drop, Option}
 use Rattle.std.specs.Prelude.{None, Some, IfSome, IfOk, Result, MatchResult}
 use Rattle.std.specs.Io.KnownBytes.{append_known}

@@ -1,5 +1,5 @@
 //! Layers in front of a program's streams. `Held` holds back a line until it is flushed. `Again`
-//! and `Ahead` repeat calls that a signal interrupted. `Remembering` has the first error.
+//! and `Ahead` repeat calls that a signal interrupted. `Remembering` keeps the first error.
 //! `read_until` and `read_at_again` read on after failures. Each passes on the bytes of the stream
 //! behind it, also if a call fails.
 //!

@@ -1,7 +1,7 @@
--- `TooMany`, `HasFault`, `Twice`: the faults of references and records, apart from any forest.
+-- `TooMany`, `HasFault`, `Twice`: the faults of references and records, defined without a forest.
 -- `InList`: a reference is in the list of a directory. `HasDepth`: the number of names that lead
--- from the root to a record. `IsLeastFault`, `IsLeastFaultOf`: the least by offset, then by number.
--- `IsNone`: nothing has the fault. (This project's own.)
+-- from the root to a record. `IsLeastFault`, `IsLeastFaultOf`: the least fault, by offset and then
+-- by number. `IsNone`: there is no such fault. (This project's own.)
 use Rattle.std.specs.Prelude.{◌≡◌, ◌≢◌, ℕ, ◌+◌, ◌<◌, ◌≤◌, List, length, Some, ◌⊎◌, Option, IfSome}
 use Rattle.std.specs.Prelude.{IsSomeAnd}
 use Rattle.std.specs.List.{AllByRecursion as Every}

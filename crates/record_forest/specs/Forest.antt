@@ -1,8 +1,8 @@
 -- `Stands`: a finite forest of records is the one that the references describe. `all_rows`: its
 -- records in preorder. `IsForest`: each record is valid, none occurs twice, and there are not more
--- than the limit. `count`, `stands_in`, `Everywhere`: the number of a forest's records, a record at
--- an offset, and something that holds for each. `NamesDiffer`: two names in one list differ. (This
--- project's own.)
+-- than the limit. `count`: the number of a forest's records. `stands_in`: whether one of them is at
+-- an offset. `Everywhere`: something holds for each of them. `NamesDiffer`: two names in one list
+-- differ. (This project's own.)
 use Rattle.std.specs.Prelude.{◌≡◌, ◌≢◌, ℕ, suc, ◌+◌, ◌≤◌, ◌==◌, Bool, true, false, if◌then◌else◌}
 use Rattle.std.specs.Prelude.{List, [], ◌∷◌, ◌++◌, length, None, Some}
 use Rattle.std.specs.List.{All, AllPairs}

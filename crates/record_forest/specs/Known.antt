@@ -1,4 +1,5 @@
--- `AreKnown`: something holds for each number in a range that is kept. (This project's own.)
+-- `AreKnown`: something holds for each number in each of the ranges that are kept. (This project's
+-- own.)
 use Rattle.std.specs.Prelude.{◌≡◌, ℕ, ◌≤◌, ◌<◌, Option, Some}
 use Rattle.std.specs.BTreeMap.{get}
 use Rattle.std.specs.Ordering.{nat_cmp}

@@ -1,6 +1,7 @@
--- `References`: the references in an image, defined once by each format. `Reached`: the least set
--- of references that has the superblock's and all that follow from it. `AreLawful`: the facts that
--- a format must show of its references. (This project's own.)
+-- `References`: the references in an image, defined once by each format. `Reached`: the references
+-- that can be reached. They are the superblock's reference and, step by step, those that follow
+-- from the ones already reached. `AreLawful`: the facts that a format must show of its references.
+-- (This project's own.)
 use Rattle.std.specs.Prelude.{◌≡◌, ◌≢◌, ℕ, Bool, true, false, Option, IsSome, ◌⊎◌}
 use Rattle.record_forest.specs.declared.reference.Reference.{Reference}
 

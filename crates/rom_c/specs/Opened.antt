@@ -1,5 +1,6 @@
--- `stands_in`: the open file at a node's number and a position, in a tree of the bytes.
--- `stands_at`: the same in the tree of an image's numbers. (This project's own.)
+-- `stands_in`: the file or directory that is open, by the number of its node and a position, in a
+-- tree of the bytes. `stands_at`: the same in the tree that an image's numbers describe. (This
+-- project's own.)
 use Rattle.std.specs.Prelude.{ℕ, List, Option}
 use Rattle.rom_tree.specs.Tree.{Node, node_at}
 use Rattle.open_files.specs.Machine.{Open}

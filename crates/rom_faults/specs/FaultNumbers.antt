@@ -62,7 +62,7 @@ LINK_SIZE = 15
 abbrev pub BLOCK_KIND : ℕ
 BLOCK_KIND = 16
 
--- an entry that ends behind its list
+-- an entry that ends after the end of its list
 abbrev pub LIST_END : ℕ
 LIST_END = 17
 
@@ -82,7 +82,7 @@ OVERLAP = 22
 abbrev pub DUPLICATE_NAME : ℕ
 DUPLICATE_NAME = 23
 
--- `.` or `..` is or leads where it may not
+-- `.` or `..` is where it may not be, or leads to the wrong directory
 abbrev pub DOT : ℕ
 DOT = 24
 
@@ -90,6 +90,6 @@ DOT = 24
 abbrev pub HARD_LINK : ℕ
 HARD_LINK = 25
 
--- a name sorts before the one directly before it, in a format with sorted lists
+-- in a list that has to be sorted, a name is less than the name before it
 abbrev pub UNSORTED : ℕ
 UNSORTED = 26

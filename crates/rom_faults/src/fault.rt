@@ -47,7 +47,7 @@ pub const LINK_SIZE: u32 = 15;
 /// A block that is not stored as it is.
 pub const BLOCK_KIND: u32 = 16;
 
-/// An entry that ends behind its list.
+/// An entry that ends after the end of its list.
 pub const LIST_END: u32 = 17;
 
 /// Two references lead to one record.
@@ -62,13 +62,13 @@ pub const OVERLAP: u32 = 22;
 /// A name occurs twice in one list.
 pub const DUPLICATE_NAME: u32 = 23;
 
-/// `.` or `..` is or leads where it may not.
+/// `.` or `..` is where it may not be, or leads to the wrong directory.
 pub const DOT: u32 = 24;
 
 /// A hard link leads to no file.
 pub const HARD_LINK: u32 = 25;
 
-/// A name sorts before the one directly before it, in a format with sorted lists.
+/// In a list that has to be sorted, a name is less than the name before it.
 pub const UNSORTED: u32 = 26;
 
 /// A fault of an image: its number, and its offset in bytes from the front.

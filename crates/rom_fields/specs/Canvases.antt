@@ -1,5 +1,6 @@
--- `Left`: the part of a buffer behind the windows that were taken. `LiesIn`: a range lies in it.
--- `window`, `behind`: the bytes of a range, and the part that is left then. (This project's own.)
+-- `Left`: the part of a buffer behind the ranges that were taken from it. `LiesIn`: a range lies in
+-- this part. `window`, `behind`: the bytes of a range, and the part behind the range. (This
+-- project's own.)
 use Rattle.std.specs.Prelude.{ℕ, ◌+◌, ◌-◌, ◌≤◌, List, length, take, drop}
 
 -- the bytes behind the last window, and their offset in the buffer

@@ -1,6 +1,6 @@
--- `Overlap`: two extents share a byte and are not the same table or data. `OverlapsAt`: two extents
--- of a list overlap at an offset. `IsLeastOf`: the least such offset, or none. (This project's
--- own.)
+-- `Overlap`: two extents share a byte. Two tables, or two runs of data, do not overlap if they have
+-- the same start and length. `OverlapsAt`: two extents of a list overlap at an offset. `IsLeastOf`:
+-- the least such offset, or none. (This project's own.)
 use Rattle.std.specs.Prelude.{◌≡◌, ℕ, zero, suc, ◌+◌, ◌<◌, ◌≤◌, ◌⊎◌, max, Bool, true, false, List}
 use Rattle.std.specs.Prelude.{[], ◌∷◌, Option, IfSome, IsSomeAnd}
 use Rattle.rom_fields.specs.declared.span.Extent.{Extent}

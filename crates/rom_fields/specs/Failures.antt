@@ -1,6 +1,7 @@
--- Changes of the count of failures of a reader or writer. `after_read`, `after_write`,
--- `after_flush`: a count after one call. `Rose`: it rose, or was at its end, 2^64 - 1.
--- `after_flushes`: a writer's count of flushes after some flushes. (This project's own.)
+-- Changes of the counts that a reader or writer keeps. `after_read`, `after_write`: the count of
+-- failures after one call. `after_flush`, `after_flushes`: the count of successful flushes after
+-- one call, and after several successful ones. `Rose`: a count rose, or was at its maximum, 2^64 -
+-- 1. (This project's own.)
 use Rattle.std.specs.Prelude.{ℕ, zero, suc, ◌+◌, ◌-◌, ◌^◌, ◌<◌, ◌≤◌, ◌≡◌, ◌⊎◌, min, if◌then◌else◌}
 use Rattle.std.specs.Prelude.{◌==◌, ◌&&◌, nat_lt, Result, Ok, Err, MatchResult}
 
@@ -28,7 +29,7 @@ abbrev pub after_flushes : ℕ → ℕ → ℕ
 after_flushes n zero = n
 after_flushes n (suc k) = one_more (after_flushes n k)
 
--- the count rose, or was at its end
+-- the count rose, or was at its maximum
 abbrev pub Rose : ℕ → ℕ → Type 0
 Rose old new = (old < new) ⊎ (2 ^ 64 - 1 ≤ old)
 

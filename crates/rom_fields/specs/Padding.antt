@@ -1,4 +1,4 @@
--- `pad`: a number rounded up to a multiple. (This project's own.)
+-- `pad`: a number, rounded up to a multiple of another. (This project's own.)
 use Rattle.std.specs.Prelude.{ℕ, ◌+◌, ◌-◌, ◌*◌, ◌/◌}
 
 -- the least multiple of k that is at least n

@@ -1,5 +1,6 @@
--- `balanced`, `sealed`: the word that brings a sum of words to 0, as romfs stores it in its headers
--- and in its superblock. (Linux Documentation/filesystems/romfs.rst.)
+-- `balanced`: bytes with a word that brings the sum of all their words to 0, as in a header of
+-- romfs. `sealed`: bytes with a word that brings the sum of the first 512 bytes to 0, as in the
+-- superblock of romfs. (Linux Documentation/filesystems/romfs.rst.)
 use Rattle.std.specs.Prelude.{ℕ, ◌+◌, ◌-◌, ◌%◌, ◌^◌, List, ◌++◌, take, drop}
 use Rattle.byteorder.specs.Endian.{big_bytes}
 use Rattle.rom_fields.specs.Words.{words_total}

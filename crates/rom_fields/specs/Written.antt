@@ -1,6 +1,7 @@
--- `AppendsPrefix`: a prefix of a text was appended. `Output`: the known facts of a writer: its
--- contents and its counts of failures and of flushes. `Sink`, `Puts`: a text was put into a sink
--- that stays failed, and nothing was flushed. (This project's own.)
+-- `AppendsPrefix`: a prefix of a text was appended. `Output`: what is known of a writer (its
+-- contents, and its counts of failures and of flushes). `Sink`: a writer to which nothing more is
+-- written once it failed. `Puts`: a text was put into a sink, and nothing was flushed. (This
+-- project's own.)
 use Rattle.std.specs.Prelude.{◌≡◌, ℕ, Bool, MatchBool, List, ◌++◌, Option, Result, MatchResult}
 use Rattle.std.specs.Io.KnownBytes.{Appends}
 use Rattle.rom_fields.specs.Failures.{Rose}

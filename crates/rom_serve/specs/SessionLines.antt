@@ -1,6 +1,6 @@
--- `space_lines`: the lines of sessions over several images, with the shared part of the state and
--- each session's own part. `NeverMounts`: no line of an input mounts an image. (This project's
--- own.)
+-- `space_lines`: the machine of lines of the sessions over several images, and which parts of its
+-- state are shared and which are each session's own. `NeverMounts`: no line of an input mounts an
+-- image. (This project's own.)
 use Rattle.std.specs.Prelude.{◌≡◌, ℕ, ◌==◌, Bool, true, false, List, drop, Option, Some, None}
 use Rattle.rom_tree.specs.Image.{Image}
 use Rattle.path_walk.specs.declared.mount.Mount.{Mount}

@@ -1,6 +1,6 @@
-//! A server of lines over read-only file system images. `serve` and `serve_space` answer lines as
-//! the calls on open files do, over one image, or over several with eight sessions; there are laws
-//! on sessions.
+//! A server of lines over read-only file system images. `serve` answers lines over one image, and
+//! `serve_space` over several images with eight sessions. The replies are the answers of the calls
+//! on open files.
 //!
 //! Proved: `serve`, `serve_bounded` and `serve_space` write exactly the replies of
 //! `specs/Machines.antt`, each of them whole before the next byte is read, and report why they

@@ -1,6 +1,6 @@
--- The meaning of a walk's stack of open directories, whose last frame is that of the deepest.
--- `pending`: the names that it has still to return. `Follows`, `Gives`: a step of the stack that
--- returns some names, or one. (This project's own.)
+-- The meaning of a walk's stack of open directories. Its last frame is that of the deepest
+-- directory. `pending`: the names that the walk still has to return. `Follows`, `Gives`: a step of
+-- the stack that returns some names, or one. (This project's own.)
 use Rattle.std.specs.Prelude.{◌≡◌, ◌<◌, ℕ, suc, ◌+◌, ◌*◌, ◌≤◌, Bool, List, [], ◌∷◌, ◌++◌, length}
 use Rattle.std.specs.Prelude.{Option, Some, None, if◌then◌else◌}
 use Rattle.std.specs.Borrow.{Bor}

@@ -1,6 +1,6 @@
--- `by_kind`: a value that depends on the kind of a node, if a format has numbers of its own for the
--- kinds. `kind_by`, `body_by`, `device_by`: a node's kind, body and device number by such a number.
--- (This project's own.)
+-- A format has its own number for each kind of node. `by_kind`: one of seven values, chosen by such
+-- a number. `kind_by`, `body_by`, `device_by`: the kind, the body and the device number of a node
+-- whose kind has this number. (This project's own.)
 use Rattle.std.specs.Prelude.{ℕ, if◌then◌else◌, ◌==◌, List}
 use Rattle.rom_tree.specs.declared.types.Kind.{Kind}
 use Rattle.rom_tree.specs.declared.types.Kind.TheVariants.{Directory, Regular, Symlink, Block}

@@ -1,5 +1,5 @@
--- `IsLongest`: the longest front of bytes of a file that follow one another in the image. (This
--- project's own.)
+-- `IsLongest`: how many bytes of a file, from one of its bytes on and up to a limit, also follow
+-- one another in the image; and the offset of the first of them. (This project's own.)
 use Rattle.std.specs.Prelude.{◌≡◌, ℕ, ◌+◌, ◌^◌, ◌<◌, ◌≤◌, List, length, slice_index}
 
 -- From byte `at` on, the longest consecutive front of at most `most` offsets has `len` of them and

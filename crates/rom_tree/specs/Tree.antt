@@ -178,6 +178,6 @@ pub data IsIn (x : Node) : List Node → Type 0 where
 abbrev pub IsCoherent : Node → Type 0
 IsCoherent t = (x y : Node) → IsIn x (nodes t) → IsIn y (nodes t) → ino_of x ≡ ino_of y → x ≡ y
 
--- a tree of at most 64 directories, one in the other, and a name in the last
+-- at most 65 directories are nested in one another, the root included
 abbrev pub IsShallow : Node → Type 0
 IsShallow t = levels t ≤ 65

@@ -1,10 +1,10 @@
--- The faults of a romfs image by phases, apart from any tree. `HasDepthFault`, `HasExtentFault`,
+-- The faults of a romfs image by phases, defined without a tree. `HasDepthFault`, `HasExtentFault`,
 -- `HasNameFault`: the faults of the later phases. `HasNoFault`: no phase has one.
 -- `IsLeastImageFault`: the least fault of an image. (The numbers and their order are this project's
 -- own.)
 --
--- These definitions know only offsets, references and extents. A phase is looked at if the phases
--- before it have no fault.
+-- These definitions know only offsets, references and extents. The faults of a phase count only if
+-- the phases before it have none.
 use Rattle.std.specs.Prelude.{◌≡◌, ◌≢◌, ℕ, suc, ◌-◌, ◌<◌, max, min, true, false, List, IsTrue}
 use Rattle.rom_fields.specs.declared.span.Extent.TheVariants.{Super, Record, Data}
 use Rattle.rom_fields.specs.declared.span.Span.{Span}

@@ -72,7 +72,7 @@ pub record IsSound (b : List ℕ) (r p : ℕ) : Type 0 where
   pub data_within : IsTrue (has_data (type_of b p)) → end_of b p + size_of b p ≤ length b
   pub link_size : type_of b p ≡ 3 → (1 ≤ size_of b p) × (size_of b p ≤ 4095)
 
--- its header is among the accessible bytes, from the root on
+-- its first 32 bytes are among the accessible bytes, from the root on
 abbrev pub HeaderLies : List ℕ → ℕ → ℕ → Type 0
 HeaderLies b r p = (r ≤ p) × (p + 32 ≤ length b)
 

@@ -1,6 +1,6 @@
--- `references`: the references in romfs. A directory refers to the first record of its list by its
--- spec, a record to the next one by its next, and the superblock to the root. A hard link's target
--- is no reference. (Linux Documentation/filesystems/romfs.rst.)
+-- `references`: the references in romfs. The superblock refers to the root. The field `spec` of a
+-- directory refers to the first record of its list, and the field `next` of a record to the next
+-- record. A hard link's target is no reference. (Linux Documentation/filesystems/romfs.rst.)
 use Rattle.std.specs.Prelude.{◌≡◌, ℕ, Bool, true, if◌then◌else◌, ◌==◌, Option, None, Some, List}
 use Rattle.record_forest.specs.declared.reference.Reference.{Reference}
 use Rattle.record_forest.specs.References.{References}

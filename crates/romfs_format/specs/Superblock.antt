@@ -1,5 +1,5 @@
--- `HasImageFault`: the fault of a romfs image as a whole, that of the first test that fails. (Linux
--- Documentation/filesystems/romfs.rst. What is refused is this project's own.)
+-- `HasImageFault`: the fault of a romfs image as a whole. It is the fault of the first test that
+-- fails. (Linux Documentation/filesystems/romfs.rst. What is refused is this project's own.)
 --
 -- The tests in their order: 2 Short and 3 Magic at 0, 4 Size at 8, 5 Sum at 12, 9 Root at 16 or at
 -- the root.
@@ -21,7 +21,7 @@ HasSize bytes = (32 ≤ full_size bytes) × (full_size bytes ≤ length bytes)
 abbrev pub HasSum : List ℕ → Type 0
 HasSum b = words_sum (take (min 512 (length b)) b) ≡ 0
 
--- a zero ends the volume name, and the root's header is behind it
+-- a zero ends the volume name, and at least 32 bytes follow its padding
 abbrev pub HasRoot : List ℕ → Type 0
 HasRoot b = (16 + length (before_zero (drop 16 b)) < length b) × (root_of b + 32 ≤ length b)
 

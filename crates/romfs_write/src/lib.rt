@@ -3,9 +3,9 @@
 //!
 //! Proved: at an `Ok` of `write`, the buffer holds exactly the layout (`romfs_layout`,
 //! `manifest_layout`), whatever it held before. At an `Ok` of `stream` or `stream_through`, exactly
-//! the layout was written, if the contents of the sources are known. An error of `write` leaves the
-//! buffer as it was, and has the first file with another size. `specs/Form.antt` has the image's
-//! segments.
+//! the layout was written, if the contents of the sources are known. An error of `write` names the
+//! first file whose size is not the planned one, and leaves the buffer as it was. `specs/Form.antt`
+//! has the image's segments.
 #![tactic(auto)]
 
 mod form;

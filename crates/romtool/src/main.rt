@@ -11,8 +11,8 @@
 //! What is printed, answered and written is proved in `rom_commands`, `build_commands`,
 //! `image_manifest` and `image_build`; what is read into memory and how streams are used, in
 //! `program_streams` and `image_load`. How a file is replaced is proved in `image_file`, and how an
-//! image is extracted in `tree_extract`, of accounts of the calls that are made of the system. The
-//! other work with files and directories is only tested.
+//! image is extracted in `tree_extract`. Both proofs are about accounts: lists of the calls that
+//! are made to the system. The other work with files and directories is only tested.
 #![tactic(auto)]
 
 mod advice;

@@ -1,5 +1,5 @@
--- `sample`: the small tree as an `Image`, with its laws. `each`: a property of each of its nodes
--- holds for all nodes in the tree. (This project's own.)
+-- `sample`: the small tree as an `Image`, with its laws. `each`: a property that holds for each of
+-- the ten nodes holds for every node in the tree. (This project's own.)
 use Rattle.std.proofs.Common.{◌≡◌, ℕ, ◌+◌, ◌<◌, ◌≤◌, true, false, [], length, Some, refl, arith}
 use Rattle.std.specs.Prelude.{slice_index}
 use Rattle.rom_tree.specs.Tree.{Node, is_device, attributes_of, row_from, ino_of, is_link}

@@ -1,6 +1,6 @@
--- `SessionMachine`: lines that are those of sessions, mixed in one input. `view_of`: the view of a
--- session. `SeesItsView`, `LeavesOwn`, `AgreeOn`: the statements of the laws. `AreApart`: the
--- condition on sessions for these. (This project's own.)
+-- `SessionMachine`: a machine of lines for several sessions, whose lines are mixed in one input.
+-- `view_of`: the view of a session. `SeesItsView`, `LeavesOwn`, `AgreeOn`: what the laws state.
+-- `AreApart`: the condition of the laws. (This project's own.)
 use Rattle.std.specs.Prelude.{◌≡◌, ℕ, ◌==◌, ◌||◌, Bool, true, false, List, [], ◌∷◌, Option, Some}
 use Rattle.std.specs.Prelude.{None}
 use Rattle.std.specs.List.{filter}

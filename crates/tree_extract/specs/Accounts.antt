@@ -1,4 +1,5 @@
--- The log that an account is. (This project's own.)
+-- The log that an account means. An account is the code's list of the calls that were made and of
+-- their answers. (This project's own.)
 use Rattle.std.specs.Prelude.{ℕ, ◌-◌, Bool, cond, List, [], ◌∷◌, None, vec_len, vec_capacity}
 use Rattle.tree_extract.specs.Log.{Call, MakeDirectory, MakeFile, FinishFile, MakeName}
 use Rattle.tree_extract.specs.Log.{MakeSymlink, SetRights, Event, Did, Refused}

@@ -1,5 +1,5 @@
--- `IsExtracted`: the members were made, each whole and with its rights set last. `AreOf`: nothing
--- was asked but what makes them. (This project's own.)
+-- `IsExtracted`: the members were made, each whole and with its rights set last. `AreOf`: each call
+-- that was asked makes one of the members. (This project's own.)
 use Rattle.std.specs.Prelude.{◌≡◌, ◌⊎◌, ◌<◌, ℕ, Bool, true, false, cond, List, [], ◌∷◌, Option}
 use Rattle.std.specs.Prelude.{length}
 use Rattle.std.specs.Io.KnownBytes.{Appends}

@@ -1,5 +1,5 @@
--- Runs that change something outside the directory, that make something which is no member, or that
--- leave something out. The newest event is first. (This project's own.)
+-- Runs that change something outside the directory, that make something that is not a member, or
+-- that leave something out. The newest event is first. (This project's own.)
 use Rattle.std.specs.Prelude.{◌≢◌, ◌<◌, ℕ, List, ◌∷◌, ◌++◌, Option, length}
 use Rattle.tree_extract.specs.Log.{MakeFile, MakeSymlink, SetRights}
 use Rattle.tree_extract.specs.Log.{Event, Did}
