@@ -235,7 +235,11 @@ ODD = (
     "a", "a b", "a#b", "a$b", "a$$b", "a:b", "a%b", "a*b", "a?b", "a[b]c", "a|b", "a\\b", "a\\\\b", "a\\ b", "a\\#b", "a\\:b", "a'b",
     'a"b', "(b)", "a)", "a<b>", "a&b", "a~b", "a,b", "a@b", "a{b}", "a`b", "\u00e9", "-a", "${x}", "a b  c", " a",
 )  # fmt: skip
-UNSAYABLE = ("a\nb", "a;b", "~a", "a\\", "a(b", "a(b)", "$(x)", "a ", "a\t")
+UNSAYABLE = ("a\nb", "a;b", "~a", "a\\", "a(b", "a(b)", "$(x)", "a ", "a\t", "\ra", "\va", "\fa")
+# what make takes for something else in one place only
+UNSAYABLE_SOURCES = ("a\r", "a\v", "a\f", "=a", "+=a", "!=a", "!=id>found", "?=a", ":=a")
+DIRECTIVES = ("define", "export", "override", "private", "undefine", "unexport")
+SPECIAL_TARGETS = (".PHONY", ".SUFFIXES", ".DELETE_ON_ERROR")
 
 
 def needs_make(test):
@@ -301,7 +305,16 @@ def unsayable_rules(binary):
         yield from refused(binary, (b"", b"file d\n", 3), "--depfile", "d", "romfs", "m", "out")
         put("m", b"file /a 0644 0 0 4 a\n")
         yield from refused(binary, (b"", b"file d\n", 3), "--depfile", "d", "romfs", "m", name)
-    yield from refused(binary, (b"", b"file d\n", 3), "--depfile", "d", "romfs", "m", "out=")
+    for name in ("out=", *SPECIAL_TARGETS):
+        yield from refused(binary, (b"", b"file d\n", 3), "--depfile", "d", "romfs", "m", name)
+    for name in UNSAYABLE_SOURCES:
+        put(name, b"x")
+        put("m", b"file /a 0644 0 0 4 %s\n" % escaped(name).encode())
+        yield from refused(binary, (b"", b"file d\n", 3), "--depfile", "d", "romfs", "m", "out")
+    put("m", b"file /a 0644 0 0 4 a\n")
+    for name in DIRECTIVES:
+        put(name, b"file /a 0644 0 0 4 a\n")
+        yield from refused(binary, (b"", b"file d\n", 3), "--depfile", "d", "romfs", name, "out")
 
 
 def rules_that_fail(binary):

@@ -14,6 +14,7 @@ import fcntl
 import itertools
 import os
 import re
+import shutil
 import stat
 import subprocess
 import sys
@@ -318,6 +319,74 @@ def parts_that_are_left(binary):
         yield "mixed: %r, %r" % (answer(done), parts())
     for name in names:
         os.remove(name)
+
+
+def inputs_with_the_names_of_parts(binary):
+    """A source, a manifest and standard output stay, even if they have the name of a part. Another name is taken then."""
+    for manifest in ("m", "out.1.part"):
+        hello()
+        put("out.0.part", b"precious")
+        put(manifest, b"file /a 0644 0 0 4 out.0.part\n")
+        with open("out.2.part", "wb") as output:
+            done = run(binary, "build", "romfs", manifest, "out", stdout=output)
+        held = {name: bytes_in(name) for name in parts()}
+        wanted = {"out.0.part": b"precious", "out.2.part": b"ok 1024\n"}
+        if manifest != "m":
+            wanted[manifest] = b"file /a 0644 0 0 4 out.0.part\n"
+        if done.returncode or held != wanted or b"precious" not in bytes_in("out"):
+            yield "%s: %r, %r" % (manifest, done, held)
+    os.mkdir("d")
+    put("d/list.0.part", b"x")
+    done = run(binary, "scan", "--all", "-o", "d/list", "d")
+    if answer(done) != (b"", b"", 0) or sorted(os.listdir("d")) != ["list", "list.0.part"]:
+        yield "scan: %r, %r" % (answer(done), os.listdir("d"))
+
+
+@needs_root
+def bits_that_a_write_clears(binary):
+    """An ordinary user's file keeps the bits that lend rights, though each write clears them."""
+    os.chmod(".", 0o777)
+    hello()
+    for mode in (0o4755, 0o2755, 0o6711):
+        put("out", b"old")
+        os.chown("out", NOBODY, NOBODY)
+        os.chmod("out", mode)
+        done = run(binary, "build", "romfs", "m", "out", preexec_fn=become_nobody)
+        now = os.stat("out")
+        if done.returncode or (now.st_uid, stat.S_IMODE(now.st_mode)) != (NOBODY, mode) or now.st_size != 1024:
+            yield "%o: %r" % (mode, now)
+
+
+def out_behind_forty_links(binary):
+    """OUT may be behind as many links as the system follows, and not behind more."""
+    hello()
+    put("file", b"old")
+    target = "file"
+    for number in range(41):
+        os.symlink(target, "link%d" % number)
+        target = "link%d" % number
+    done = run(binary, "build", "romfs", "m", "link39")
+    if answer(done) != (b"ok 1024\n", b"", 0) or os.stat("file").st_size != 1024:
+        yield "40: %r" % (answer(done),)
+    done = run(binary, "build", "romfs", "m", "link40")
+    if answer(done) != (b"", b"file link40\n", 3):
+        yield "41: %r" % (answer(done),)
+
+
+@needs_root
+def root_that_may_not_be_listed(binary):
+    """A command does what it is asked for if no directory may be opened for closed streams."""
+    os.mkdir("top")
+    libraries = subprocess.run(["ldd", binary], stdout=subprocess.PIPE, text=True).stdout
+    for path in [binary, *re.findall(r"(/\S+) \(", libraries)]:
+        to = "top/romtool" if path == binary else "top" + path
+        os.makedirs(os.path.dirname(to), exist_ok=True)
+        shutil.copy(path, to)
+    os.chmod("top", 0o711)
+    words = ["chroot", "--userspec=%d:%d" % (NOBODY, NOBODY), "top", "/romtool", "version"]
+    done = subprocess.run(words, stdin=subprocess.DEVNULL, capture_output=True)
+    if done.returncode or not done.stdout.startswith(b"romtool "):
+        yield repr(done)
 
 
 def part_of_a_killed_build(binary):
@@ -720,7 +789,8 @@ TESTS = [
     private_while_written, owner_is_kept, owner_that_cannot_be_set, handed_to_the_disk,
     calls_of_a_replacement, kinds_that_are_not_handed_on,
     folder_that_is_not_handed_on, part_of_another_file, parts_that_are_held, parts_that_are_left,
-    part_of_a_killed_build,
+    part_of_a_killed_build, inputs_with_the_names_of_parts, bits_that_a_write_clears, out_behind_forty_links,
+    root_that_may_not_be_listed,
     rewritten_while_read, changed_while_read, no_further_than_stated, image_from_a_pipe, device_without_end,
     what_follows_the_last_line, lines_of_a_file_are_read_in_blocks,
     interrupted_calls, a_line_is_one_write, first_word_is_no_text, closed_streams, closed_streams_and_a_pipe,

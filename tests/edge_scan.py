@@ -107,6 +107,8 @@ def endings(call, name, fault, whole, is_settling):
         return [(whole, b"write fault\n", 3)]
     told = {"ENOMEM": b"memory\n"}.get(fault, b"file %s\n" % shown(name or b""))
     done = (whole, b"", 0)
+    if call.name == "openat" and name == b"/":
+        return [done]  # for closed streams, another directory is opened then
     if call.name == "write":
         # what could not be written is tried once more at the end
         return [done] if fault == "EINTR" else [(b"", b"write fault\n", 3), (whole, b"write fault\n", 3)]

@@ -291,6 +291,10 @@ def devices(tester):
         file.write("pipe /x 0600 0 0\n\npipe /x 0600 0 0\n")
     tester.is_same("devices: twice", tester.run(["scan", "--all", "--devices", "bad", "table"]), ("", "manifest 3 5 Exists\n", 1))
     tester.is_same("devices: none", tester.run(["scan", "--all", "--devices", "no", "table"]), ("", "file no\n", 3))
+    ran = tester.run(["scan", "--all", "--devices", "devices", "-o", "devices", "table"])
+    tester.is_same("devices: FILE", ran, ("", "file devices\n", 3))
+    with open(f"{tester.room}/devices", encoding="ascii") as file:
+        tester.is_same("devices: FILE stays", file.readline(), "# a table\n")
 
 
 def strict(tester):

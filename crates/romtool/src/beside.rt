@@ -7,7 +7,7 @@ ghost use Rattle.std.specs.Prelude.{◌≡◌, ◌+◌, ◌<◌, ◌≤◌, None
 ghost use Rattle.atomic_file.specs.Log.{Logs};
 
 use crate::closing::close;
-use crate::owner::take_after;
+use crate::owner::{lends_rights, take_after};
 use crate::parts::{Lock, lock_part, remove_left};
 use crate::stamp::Identity;
 use atomic_file::{Account, Answer, Asked, CreateError, Directory, Durability, LeftError, Names};
@@ -68,6 +68,8 @@ pub struct Beside {
     mode: u32,
     // the file whose owner and permissions a part gets
     like: Option<Metadata>,
+    // files that are no parts, whatever their names are
+    inputs: Vec<Identity>,
     part: Option<Part>,
     others: Others,
     // the name that was cleared last
@@ -81,22 +83,25 @@ impl Beside {
     ghost use Rattle.std.specs.Prelude.{[], IfOk};
     ghost use Rattle.atomic_file.specs.Accounts.{log_of, room_of};
 
-    /// Makes the value for a name, whose parts get these permissions, or those of another file.
+    /// Makes the value for a name, whose parts get these permissions, or those of another file. The
+    /// inputs are not removed, whatever their names are.
     pub fn new(
         rt: &HostRuntime,
         whole: &str,
         directory: Option<File>,
-        mode: u32,
-        like: Option<Metadata>,
+        rights: (u32, Option<Metadata>),
+        inputs: Vec<Identity>,
     ) -> io::Result<Beside>
         ensures log { IfOk result (λ b. log_of b.account ≡ []) }
         ensures room { IfOk result (λ b. 304 ≤ room_of b.account) }
     {
+        let (mode, like) = rights;
         Ok(Beside {
             whole: String::from_str(rt.alloc(), whole)?,
             directory,
             mode,
             like,
+            inputs,
             part: None,
             others: Others::default(),
             cleared: None,
@@ -160,9 +165,15 @@ fn into_file(mut part: Writer) -> io::Result<File> {
     }
 }
 
-/// Synchronizes a file, and returns it and which file it is.
-fn synced(part: Writer) -> io::Result<(File, Identity)> {
+/// Synchronizes a file, and returns it and which file it is. If `like` lends rights of its owner or
+/// its group, the file gets its mode once more, because a write of an ordinary user clears these
+/// bits.
+fn synced(part: Writer, like: Option<&Metadata>) -> io::Result<(File, Identity)> {
     let file = into_file(part)?;
+    match like {
+        Some(found) if lends_rights(found) => take_after(&file, found)?,
+        _ => {}
+    }
     file.sync_all()?;
     let identity = Identity::of(&file.metadata()?);
     Ok((file, identity))
@@ -273,7 +284,7 @@ impl System<'_> {
         let Ok(path) = path_of(self.rt, &self.beside.whole, name) else {
             return Err(LeftError::Missing);
         };
-        if remove_left(self.rt, &path) {
+        if remove_left(self.rt, &path, &self.beside.inputs) {
             self.beside.others.removed = self.beside.others.removed.saturating_add(1);
             self.beside.cleared = Some(name);
             return Ok(());
@@ -392,7 +403,7 @@ impl Directory for System<'_> {
     }
 
     fn sync(&mut self, part: Writer) -> Result<File, Failed> {
-        match synced(part) {
+        match synced(part, self.beside.like.as_ref()) {
             Ok((file, identity)) => {
                 self.beside.account.note(Asked::Sync(None), Answer::Done);
                 if let Some(part) = &mut self.beside.part {

@@ -192,6 +192,21 @@ impl Inputs<'_> {
         self.manifest == Some(identity)
             || self.stamps.iter().any(|stamp| stamp.identity() == identity)
     }
+
+    /// Which files these are, and standard output.
+    fn identities(&self, rt: &HostRuntime) -> io::Result<Vec<Identity>> {
+        let mut all = Vec::new(rt.alloc());
+        if let Ok(output) = fs::metadata(rt, OUTPUT) {
+            all.push(Identity::of(&output))?;
+        }
+        if let Some(manifest) = self.manifest {
+            all.push(manifest)?;
+        }
+        for stamp in self.stamps {
+            all.push(stamp.identity())?;
+        }
+        Ok(all)
+    }
 }
 
 /// Refuses a file that must not be written, since the image is made of it or it is standard output.
@@ -210,7 +225,11 @@ fn check_output(reporter: &Reporter<'_>, name: &str, inputs: Inputs<'_>) -> Resu
 /// Opens the target of an image. It is neither the manifest nor a source, nor standard output.
 fn target_of(reporter: &Reporter<'_>, out: &str, inputs: Inputs<'_>) -> Result<Target, Status> {
     check_output(reporter, out, inputs)?;
-    match Target::open(reporter.rt, out) {
+    let opened = match inputs.identities(reporter.rt) {
+        Ok(inputs) => Target::open(reporter.rt, out, inputs),
+        Err(e) => Err(e),
+    };
+    match opened {
         Ok(target) => {
             explained::parts(reporter, &target);
             Ok(target)
@@ -231,7 +250,20 @@ fn rule_of(
         return Ok(None);
     };
     check_output(reporter, name, inputs)?;
-    Ok(Some(depfile::written(reporter, name, rule(asked, names), image)?))
+    let target = match inputs.identities(reporter.rt) {
+        Ok(inputs) => Target::open(reporter.rt, name, inputs),
+        Err(e) => Err(e),
+    };
+    match target {
+        Ok(target) => Ok(Some(depfile::written(
+            reporter,
+            name,
+            rule(asked, names),
+            target,
+            image,
+        )?)),
+        Err(e) => Err(reporter.refused(name.as_bytes(), &e)),
+    }
 }
 
 /// The rule of a build.

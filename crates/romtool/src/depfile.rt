@@ -43,14 +43,60 @@ fn is_unsayable(byte: u8, place: Place) -> bool {
     }
 }
 
+/// The words that make reads as directives before a variable.
+const DIRECTIVES: [&[u8]; 6] = [
+    b"define",
+    b"export",
+    b"override",
+    b"private",
+    b"undefine",
+    b"unexport",
+];
+
+/// Whether make takes a byte for a space between names.
+fn is_gap(byte: u8) -> bool {
+    matches!(byte, b'\r' | 0x0b | 0x0c)
+}
+
+/// Whether make can read the first and the last byte of a name.
+fn are_ends_sayable(name: &[u8], place: Place) -> bool {
+    let first = name.first().copied().unwrap_or(b' ');
+    let last = name.last().copied().unwrap_or(b' ');
+    let is_last_gap = is_gap(last) && place != Place::Target;
+    let is_last_sayable = !is_last_gap && !matches!(last, b' ' | b'\t' | b'\\');
+    first != b'~' && !is_gap(first) && is_last_sayable
+}
+
+/// Whether make takes a name for something else: a target with a special meaning, a directive, or
+/// the value of a variable.
+fn is_special_name(name: &[u8], place: Place) -> bool {
+    let is_value = match name {
+        [b'=', ..] => true,
+        [b'+' | b'!' | b'?' | b':', b'=', ..] => true,
+        _ => false,
+    };
+    match place {
+        Place::Target => match name {
+            [b'.', word @ ..] => word
+                .iter()
+                .all(|byte| byte.is_ascii_uppercase() || *byte == b'_'),
+            _ => false,
+        },
+        Place::First => DIRECTIVES.contains(&name),
+        Place::Other => is_value,
+    }
+}
+
 /// Whether make has a spelling of a name.
 fn is_name_sayable(name: &str, place: Place) -> bool {
     let name = name.as_bytes();
-    let last = name.last().copied().unwrap_or(b' ');
-    let ends = !name.starts_with(b"~") && !matches!(last, b' ' | b'\t' | b'\\');
     let is_group = place == Place::Target && name.ends_with(b"&");
     let is_member = name.iter().skip(1).any(|byte| *byte == b'(');
-    ends && !is_group && !is_member && !name.iter().any(|byte| is_unsayable(*byte, place))
+    are_ends_sayable(name, place)
+        && !is_special_name(name, place)
+        && !is_group
+        && !is_member
+        && !name.iter().any(|byte| is_unsayable(*byte, place))
 }
 
 /// Adds this number of backslashes.
@@ -154,19 +200,16 @@ pub fn check(reporter: &Reporter<'_>, name: &str, rule: Rule<'_>) -> Result<(), 
     }
 }
 
-/// Writes a rule to a part beside the file of this name, which is not the image's file. The part
-/// gets its name after the image has got its own.
+/// Writes a rule to its target, which has this name and is not the image's file. The target gets
+/// this name after the image has got its own.
 pub fn written(
     reporter: &Reporter<'_>,
     name: &str,
     rule: Rule<'_>,
+    mut target: Target,
     image: &Target,
 ) -> Result<Target, Status> {
     let rt = reporter.rt;
-    let mut target = match Target::open(rt, name) {
-        Ok(target) => target,
-        Err(e) => return Err(reporter.refused(name.as_bytes(), &e)),
-    };
     let result = if target.has_place_of(rt, image) {
         Err(reporter.failed(name.as_bytes(), &OWN_RULE))
     } else {

@@ -6,6 +6,14 @@ use std::os::unix::fs::{MetadataExt, PermissionsExt, fchown};
 /// The permissions that lend no rights of the owner or the group.
 const LENDING_NOTHING: u32 = 0o777;
 
+/// The permissions that lend rights of the owner or the group.
+const LENDING: u32 = 0o6000;
+
+/// Returns whether the mode of a file lends rights of its owner or its group.
+pub fn lends_rights(found: &Metadata) -> bool {
+    found.mode() & LENDING != 0
+}
+
 /// Returns a mode in which the group and others have only the rights that both of them have.
 fn without_group(mode: u32) -> u32 {
     let both = (mode >> 3) & mode & 0o7;

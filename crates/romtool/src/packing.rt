@@ -6,6 +6,7 @@ use crate::inventory::all_below;
 use crate::overlay::{OverlayError, laid_over, sort};
 use crate::patterns::Patterns;
 use crate::reporter::Reporter;
+use crate::stamp::Identity;
 use crate::target::Target;
 use crate::unfit::Unfit;
 use build_commands::inventory::{NamedFile, lines, put_found};
@@ -17,7 +18,6 @@ use rom_fields::{Failed, Plain};
 use sentences::reasons::{KINDS_DIFFER, LONG_NAME, MANIFEST_NOT_TAKEN, OWN_FILE, PART_REPLACED};
 use std::fs;
 use std::io::{self, BufWriter};
-use std::os::unix::fs::MetadataExt;
 
 /// The most bytes of a volume's name.
 const MOST_VOLUME: usize = 255;
@@ -72,16 +72,42 @@ fn all_found(reporter: &Reporter<'_>, scan: &ScanAll<'_>) -> Result<Vec<NamedFil
     with_devices(reporter, scan.devices, found)
 }
 
-/// Opens the target for the manifest, which must not be a file that the manifest names.
-fn target_of(reporter: &Reporter<'_>, name: &str, found: &[NamedFile]) -> Result<Target, Status> {
-    if let Ok(there) = fs::metadata(reporter.rt, name) {
-        let mine = (there.dev(), there.ino());
-        let is_mine = |file: &NamedFile| (file.inode.device, file.inode.number) == mine;
-        if found.iter().any(is_mine) {
-            return Err(reporter.failed(name.as_bytes(), &OWN_FILE));
-        }
+/// Which files a manifest is made of: those that it names, and the file of devices.
+fn inputs_of(
+    rt: &HostRuntime,
+    devices: Option<&str>,
+    found: &[NamedFile],
+) -> io::Result<Vec<Identity>> {
+    let mut all = Vec::new(rt.alloc());
+    if let Some(name) = devices
+        && let Ok(there) = fs::metadata(rt, name)
+    {
+        all.push(Identity::of(&there))?;
     }
-    match Target::open(reporter.rt, name) {
+    for file in found {
+        all.push(Identity::at(file.inode.device, file.inode.number))?;
+    }
+    Ok(all)
+}
+
+/// Opens the target for the manifest, which must not be a file that the manifest is made of.
+fn target_of(
+    reporter: &Reporter<'_>,
+    name: &str,
+    devices: Option<&str>,
+    found: &[NamedFile],
+) -> Result<Target, Status> {
+    let rt = reporter.rt;
+    let inputs = match inputs_of(rt, devices, found) {
+        Ok(inputs) => inputs,
+        Err(e) => return Err(reporter.refused(name.as_bytes(), &e)),
+    };
+    if let Ok(there) = fs::metadata(rt, name)
+        && inputs.contains(&Identity::of(&there))
+    {
+        return Err(reporter.failed(name.as_bytes(), &OWN_FILE));
+    }
+    match Target::open(rt, name, inputs) {
         Ok(target) => Ok(target),
         Err(e) => Err(reporter.refused(name.as_bytes(), &e)),
     }
@@ -114,9 +140,8 @@ fn write_file(
     name: &str,
     volume: &[u8],
     lines: &[Entry<'_>],
-    found: &[NamedFile],
+    mut target: Target,
 ) -> Result<(), Status> {
-    let mut target = target_of(reporter, name, found)?;
     if let Err(status) = write_to(reporter, &mut target, name, volume, lines) {
         target.abandon(reporter.rt);
         return Err(status);
@@ -158,7 +183,10 @@ fn pack(reporter: &Reporter<'_>, scan: &ScanAll<'_>) -> Result<(), Status> {
         return Err(unfit.refuse(reporter, scan));
     }
     match scan.output {
-        Some(name) => write_file(reporter, name, volume, &lines, &found)?,
+        Some(name) => {
+            let target = target_of(reporter, name, scan.devices, &found)?;
+            write_file(reporter, name, volume, &lines, target)?;
+        }
         None => print(reporter, volume, &lines)?,
     }
     unfit.explain(reporter, scan);

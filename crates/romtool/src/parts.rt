@@ -59,8 +59,8 @@ pub fn lock_part(rt: &HostRuntime, name: &str, made: &File) -> Lock {
 }
 
 /// Removes a part if no build has its lock, and returns whether it did. A file that is not regular,
-/// or that has further names, is no part.
-pub fn remove_left(rt: &HostRuntime, name: &str) -> bool {
+/// that has further names, or that is one of the inputs, is no part.
+pub fn remove_left(rt: &HostRuntime, name: &str, inputs: &[Identity]) -> bool {
     let Ok(found) = fs::symlink_metadata(rt, name) else {
         return false;
     };
@@ -68,6 +68,9 @@ pub fn remove_left(rt: &HostRuntime, name: &str) -> bool {
         return false;
     }
     let identity = Identity::of(&found);
+    if inputs.contains(&identity) {
+        return false;
+    }
     match opened(rt, name, identity) {
         Ok(Some(file)) => {
             file.try_lock().is_ok()

@@ -40,7 +40,7 @@ fn led_to(rt: &HostRuntime, link: &str, text: &str) -> io::Result<String> {
 /// The operating system's error; `FilesystemLoop` if too many links follow one another.
 pub fn behind_links(rt: &HostRuntime, name: &str) -> io::Result<String> {
     let mut whole = String::from_str(rt.alloc(), name)?;
-    for _ in 0..MOST_LINKS {
+    for _ in 0..=MOST_LINKS {
         if !fs::symlink_metadata(rt, &whole)?.is_symlink() {
             return Ok(whole);
         }

@@ -16,6 +16,11 @@ pub struct Identity {
 }
 
 impl Identity {
+    /// Returns the identity of the file with this number on a device.
+    pub fn at(device: u64, inode: u64) -> Identity {
+        Identity { device, inode }
+    }
+
     /// Returns the identity of the file with these attributes.
     pub fn of(found: &Metadata) -> Identity {
         Identity {

@@ -110,26 +110,29 @@ fn target_beside(rt: &HostRuntime, beside: Beside) -> io::Result<Target>
 }
 
 /// Makes a new file beside a regular file that can be written, with its owner and permissions.
-fn in_place_of(rt: &HostRuntime, name: &str) -> io::Result<Target> {
+fn in_place_of(rt: &HostRuntime, name: &str, inputs: Vec<Identity>) -> io::Result<Target> {
     let found = to_write(rt, name)?.metadata()?;
     let whole = behind_links(rt, name)?;
     if Identity::of(&fs::symlink_metadata(rt, &whole)?) != Identity::of(&found) {
         return Err(io::Error::new(io::ErrorKind::NotFound, REPLACED));
     }
     let directory = opened_directory(rt, &whole)?;
-    target_beside(
-        rt,
-        Beside::new(rt, &whole, directory, PRIVATE, Some(found))?,
-    )
+    let rights = (PRIVATE, Some(found));
+    target_beside(rt, Beside::new(rt, &whole, directory, rights, inputs)?)
 }
 
 /// Makes a new file beside a name that nothing has, not even a link that leads nowhere.
-fn in_a_new_place(rt: &HostRuntime, name: &str, missing: io::Error) -> io::Result<Target> {
+fn in_a_new_place(
+    rt: &HostRuntime,
+    name: &str,
+    inputs: Vec<Identity>,
+    missing: io::Error,
+) -> io::Result<Target> {
     match fs::symlink_metadata(rt, name) {
         Ok(_) => Err(missing),
         Err(e) if e.kind() == io::ErrorKind::NotFound => {
             let directory = opened_directory(rt, name)?;
-            target_beside(rt, Beside::new(rt, name, directory, USUAL, None)?)
+            target_beside(rt, Beside::new(rt, name, directory, (USUAL, None), inputs)?)
         }
         Err(e) => Err(e),
     }
@@ -228,17 +231,18 @@ impl Ready {
 }
 
 impl Target {
-    /// Opens the target of an image of this name. A file that has the name stays as it is.
+    /// Opens the target of an image of this name. A file that has this name stays as it is, and so
+    /// do the inputs, even if they have the names of parts.
     ///
     /// # Errors
     ///
     /// That of the system: for a directory, for a file that cannot be written, for a link that
     /// leads nowhere, or if no file can be made beside it.
-    pub fn open(rt: &HostRuntime, name: &str) -> io::Result<Target> {
+    pub fn open(rt: &HostRuntime, name: &str, inputs: Vec<Identity>) -> io::Result<Target> {
         match fs::metadata(rt, name) {
-            Ok(found) if found.is_file() => in_place_of(rt, name),
+            Ok(found) if found.is_file() => in_place_of(rt, name, inputs),
             Ok(_) => straight(rt, name),
-            Err(e) if e.kind() == io::ErrorKind::NotFound => in_a_new_place(rt, name, e),
+            Err(e) if e.kind() == io::ErrorKind::NotFound => in_a_new_place(rt, name, inputs, e),
             Err(e) => Err(e),
         }
     }
