@@ -1,7 +1,7 @@
 -- `IsFaultAt`, `IsPointerFault`, `IsTooDeep`, `IsNameFault`, `IsLaterFault`: the faults that the
 -- phases look for: those of one record and of its block pointers, and those of depth, extents and
--- names among the rows of a forest. `IsWhole`: a word is the pointer of a whole block, read at the
--- pointer's offset. (This project's own.)
+-- names among the rows of a forest. `IsWhole`: a word is a block pointer, and its block of 4096
+-- bytes lies in the image. (This project's own.)
 use Rattle.std.specs.Borrow.{Bor}
 use Rattle.std.specs.Prelude.{◌≡◌, ℕ, ◌+◌, ◌*◌, ◌<◌, ◌≤◌, ◌⊎◌, ◌==◌, Bool, true, false}
 use Rattle.std.specs.Prelude.{if◌then◌else◌, List, [], ◌∷◌, ◌++◌, length, drop, Option, None, Some}
@@ -31,7 +31,8 @@ pub data IsFaultAt (o : Order) (b : List ℕ) (p : ℕ) : ℕ → Type 0 where
       → (size_of o b p ≡ 0) ⊎ (4095 < size_of o b p)
       → IsFaultAt o b p n
 
--- the n-th word is the pointer of a whole block that is read at the pointer's offset
+-- the n-th word is a direct, uncompressed block pointer, and the 4096 bytes at its offset lie in
+-- the image
 abbrev pub IsWhole : Order → List ℕ → ℕ → Type 0
 IsWhole o b n = IsPlain o b (word o b (4 * n)) × Lies b (block_start (word o b (4 * n))) 4096
 

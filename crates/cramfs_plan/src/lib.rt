@@ -1,6 +1,6 @@
-//! The plan of a cramfs image, in either byte order, from the names of a manifest in a row.
-//! `lay_out` returns its length and its inodes as items, or reports that the whole is too large;
-//! `sections` returns its sections.
+//! The plan of a cramfs image, in either byte order, from rows: the names of a manifest in
+//! preorder. `lay_out` returns its length and its inodes as items, or reports that the whole is too
+//! large; `sections` returns its sections.
 //!
 //! Proved: they are those of the layout (`cramfs_layout`). One pass goes over the rows backwards
 //! and computes the lengths of lists. Another goes forwards and computes offsets. Neither needs

@@ -1,6 +1,7 @@
--- For private functions of `blocks`. `after_history`: the remainder after some bytes, to which 300
--- earlier bytes have still to be added. `StandsFor`, `TakesIn`: a history has the same effect as a
--- remainder, and becomes another history when it takes in bytes. (This project's own.)
+-- For private functions of `blocks`. A history is the 300 bytes before some bytes, which have still
+-- to be added to them. `after_history`: the remainder after these bytes. `StandsFor`: a history has
+-- the same effect as a remainder. `TakesIn`: it becomes another history by taking in bytes. (This
+-- project's own.)
 --
 -- A remainder is that of a polynomial, whose highest powers come first. x^300 + x^155 + x^117 +
 -- x^89 + 1 is a multiple of the CRC's polynomial, and so is the same polynomial with x^8 in place

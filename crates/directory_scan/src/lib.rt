@@ -2,7 +2,8 @@
 //!
 //! Proved: if a lister reports a tree, then the manifest that is printed of the entries of its walk
 //! has exactly one line for each file and directory in this tree, in the order of the bytes of
-//! their paths (`specs/Scans.antt`). The names of the tree have to be ones that a manifest accepts.
+//! their paths (`specs/Scans.antt`). This holds if a manifest accepts each name of the tree, if its
+//! paths are short enough, and if only directories are entered.
 #![tactic(auto)]
 
 pub mod laws;

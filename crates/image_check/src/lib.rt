@@ -1,8 +1,8 @@
 //! `check`, which recognizes the format of an image by its first bytes and checks it (Linux
 //! Documentation/filesystems/romfs.rst and cramfs.rst); and `AnyImage`, an image of either format
-//! as a `TreeImage`. `reach_of` returns the number of bytes at the front of a file that a check
-//! reads, from the first 76 bytes. `is_sum_refused` returns whether the first 512 bytes already
-//! show a wrong sum, which is then the fault of the whole file.
+//! as a `TreeImage`. `reach_of` computes, from the first 76 bytes of a file, how many of its first
+//! bytes a check reads. `is_sum_refused` returns whether the first 512 bytes already show a wrong
+//! sum, which is then the fault of the whole file.
 //!
 //! Proved: an image is returned only if its bytes hold a tree of files of one of the two formats,
 //! and have no fault. A fault is returned only if they hold no tree of either, and it is the least

@@ -1,6 +1,7 @@
--- For the proofs, on a pass through the names in preorder: the open names, one of which is the
--- directory of the next name. `AreOpen`: the ways to the open names. `AreToCome`: each name that is
--- still to come is below a way that is open before it. (This project's own.)
+-- For the proofs of a pass through the names in preorder. The open names are the last name and the
+-- directories above it: the next name is in one of these. `AreOpen`: these are the ways to the open
+-- names. `AreToCome`: each name that is still to come is below a way that is open before it. (This
+-- project's own.)
 use Rattle.std.specs.Prelude.{◌≡◌, ◌<◌, ℕ, suc, ◌==◌, List, [], ◌∷◌, ◌++◌, length, Option, Some}
 use Rattle.std.specs.Prelude.{None, if◌then◌else◌}
 use Rattle.rom_tree.specs.Names.{Name, path_below}

@@ -1,4 +1,4 @@
--- How a command ends that prints a text of a valid image. (This project's own.)
+-- How a command that prints a text of a valid image ends. (This project's own.)
 use Rattle.std.specs.Prelude.{◌≡◌, ℕ, ◌<◌, ◌⊎◌, List, Bool, true, false}
 use Rattle.std.specs.Io.KnownBytes.{Appends}
 use Rattle.rom_fields.specs.Failures.{Rose, one_more}
@@ -13,8 +13,8 @@ use Rattle.rom_commands.specs.declared.ending.Ending.TheVariants.{LongPath, Writ
 abbrev pub Fails : Ending → Output → Output → Ending → Type 0
 Fails why err err' result = Prints err err' (line_of why) × (result ≡ why)
 
--- What a command has to print: a text, and the ending that goes with it; and for which reasons it
--- may stop, and of which text a prefix was printed then.
+-- `HasText`: what a command has to print, with the ending that belongs to it. `MayStop`: for which
+-- reasons a command may stop early, and the text of which it printed a prefix then.
 abbrev pub HasText : Type 1
 HasText = List ℕ → Ending → Type 0
 

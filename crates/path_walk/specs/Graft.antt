@@ -1,7 +1,7 @@
 -- `graft`: several images with their mounts as a `Namespace`. `are_mounts`: the conditions on
--- mounts. `Names`: the numbers of an image and of a node name a node of the graft. `IsUncovered`:
--- no mount covers it. (As in Linux, path_resolution(7), "Mount points". What may be mounted is this
--- project's own.)
+-- mounts. `Names`: a node of the graft is the one with this number, in the image with this number.
+-- `IsUncovered`: no mount covers it. (As in Linux, path_resolution(7), "Mount points". What may be
+-- mounted is this project's own.)
 --
 -- The graft is the tree of image 0, with the root of each mounted image in place of the directory
 -- that it covers, under the same name. Dot-dot at a mounted root leads to the parent of the covered
@@ -36,7 +36,7 @@ node_in [] i n = None
 node_in (m ∷ ms) zero n = image_node m n
 node_in (m ∷ ms) (suc i) n = node_in ms i n
 
--- the number of an image and the number of one of its nodes name a node of the graft
+-- the node with the number n, in the image with the number i, is this node of the graft
 pub record Names (ms : List Image) (i n : ℕ) (s : MountedNode) : Type 0 where
   pub image : i ≡ s.image
   pub node : node_in ms i n ≡ Some s.node

@@ -1,6 +1,6 @@
-//! What the crates that read, build and serve images share: words of bytes and their sums, readers
-//! and writers that count their failures, texts that are written whole or as a prefix, the first
-//! overlap of extents, and bytes in which parts are at their offsets.
+//! What the crates that read, build and serve images share: words and their sums; readers and
+//! writers that count their failures; texts that are written whole or as a prefix; the first
+//! overlap of extents; and a canvas of bytes, on which parts are put at their offsets.
 //!
 //! Proved: each word that is read or put is that of `specs/Words.antt` (romfs stores big-endian
 //! words: Linux Documentation/filesystems/romfs.rst). Each text is written whole, or as a prefix if

@@ -1,6 +1,6 @@
 -- `layout`: the bytes of a romfs image, from the root's attributes, its names and the contents of
--- the sources. `headers`, `placed`: the words of each header, and the offsets of all that names
--- have. (Linux Documentation/filesystems/romfs.rst. The order, and that each offset is the least
+-- the sources. `headers`: the words of each header. `placed`: the files, with the offsets of their
+-- headers. (Linux Documentation/filesystems/romfs.rst. The order, and that each offset is the least
 -- possible, are this project's own.)
 --
 -- Children are in the order of their names. A header is followed by its file's bytes, or by the

@@ -1,6 +1,6 @@
-//! The plan of a romfs image, from the names of a manifest in a row. `image_len`, `items` and
-//! `sections` return its length, headers and sections, with offsets that two passes over the rows
-//! compute.
+//! The plan of a romfs image, from rows: the names of a manifest in preorder. `image_len`, `items`
+//! and `sections` return its length, headers and sections, with offsets that two passes over the
+//! rows compute.
 //!
 //! Proved: they are those of the layout (`romfs_layout`); `image_len` returns nothing exactly if
 //! the image is too large. `specs/Passes.antt` has the two passes, forwards and backwards. They

@@ -9,7 +9,7 @@ manifest_sentence n =
     if n == BAD_WORD then
     codes "an unknown word, a wrong number of fields, an empty field, or a nod line with neither b nor c"
     else (if n == BAD_NUMBER then
-    codes "a mode is not four octal digits, or another number is not decimal and below 2^32"
+    codes "a mode is not four octal digits, or another number is not decimal or not below 2^32"
     else (if n == BAD_PATH then
     codes "a path, a link's text or a volume's name is not valid"
     else (if n == NO_PARENT then

@@ -39,7 +39,7 @@ line_sentence text =
     else (if bytes_eq text (codes "bad line") then
     Some (codes "too few or too many words, an empty word, or a line of over 8,191 bytes")
     else (if bytes_eq text (codes "bad number") then
-    Some (codes "a number is not decimal and below 2^32, or a read asks for more than 4096 bytes")
+    Some (codes "a number is not decimal or not below 2^32, or a read asks for more than 4096 bytes")
     else (if bytes_eq text (codes "bad session") then
     Some (codes "the line does not begin with a session, 0 to 7, and a space")
     else None)))

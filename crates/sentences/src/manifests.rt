@@ -12,7 +12,7 @@ pub fn manifest_sentence(number: u32) -> &'static str
         BAD_WORD =>
             "an unknown word, a wrong number of fields, an empty field, or a nod line with neither b nor c",
         BAD_NUMBER =>
-            "a mode is not four octal digits, or another number is not decimal and below 2^32",
+            "a mode is not four octal digits, or another number is not decimal or not below 2^32",
         BAD_PATH => "a path, a link's text or a volume's name is not valid",
         NO_PARENT => "no earlier line makes the parent directory of the path",
         EXISTS => "an earlier line already has this path, or already names the volume",

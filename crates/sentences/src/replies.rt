@@ -59,7 +59,7 @@ pub fn line_sentence(text: &[u8]) -> Option<&'static str>
     }
     if text == b"bad number".as_slice() {
         return Some(
-            "a number is not decimal and below 2^32, or a read asks for more than 4096 bytes",
+            "a number is not decimal or not below 2^32, or a read asks for more than 4096 bytes",
         );
     }
     if text == b"bad session".as_slice() {
