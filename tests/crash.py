@@ -8,44 +8,19 @@ was done. At each moment a crash must leave what was at OUT before, or the new i
 FUSE is missing. The last line is `N passed, M failed`, with `, K skipped`.
 """
 
-import contextlib
 import os
-import subprocess
 import sys
 
+import fuse
 import rooms
 from edge import hello, wanted
-from edge_kept import has_fuse, unmounted
-from files import put, text_of, wait_until
-from harness import HERE, SECONDS
+from files import put, text_of
 from romtool import FORMATS, answer, run
 
 OLD = b"what was there before"
 WHEN = ("before", "after")
 # the refusals after which a crash may leave the new image, although the build failed
 UNSURE = (("rename", "after"), ("fsyncdir", "before"), ("fsyncdir", "after"))
-
-
-def compile_server():
-    """Compiles the file system."""
-    flags = subprocess.run(["pkg-config", "--cflags", "--libs", "fuse3"], stdout=subprocess.PIPE, timeout=SECONDS)
-    words = ["cc", "-std=gnu99", "-O1", "-o", "crash", HERE + "/crash.c", *flags.stdout.decode().split()]
-    subprocess.run(words, check=True, timeout=SECONDS)
-
-
-@contextlib.contextmanager
-def mounted(*more):
-    """Provides a directory of the file system, or nothing. Its log, `log`, is about the file `out` there."""
-    os.mkdir("mount")
-    server = subprocess.Popen(["./crash", "mount", "/out", "log", *more], stderr=subprocess.DEVNULL)
-    wait_until(lambda: os.path.ismount("mount") or server.poll() is not None)
-    try:
-        yield "mount" if os.path.ismount("mount") else None
-    finally:
-        unmounted("mount")
-        server.kill()
-        server.wait()
-        os.rmdir("mount")
 
 
 def lay_durable(folder, content):
@@ -67,7 +42,7 @@ class Moment:
 
 def built(binary, format, old, *more):
     """Returns the finished build of `m` over what was at OUT, and its moments; or nothing if nothing can be mounted."""
-    with mounted(*more) as folder:
+    with fuse.mounted("crash", "/out", "log", *more) as folder:
         if not folder:
             return None
         if old is not None:
@@ -103,10 +78,9 @@ def refusals(binary, format, old, image, calls):
 
 def crashes(binary):
     """A crash leaves what was at OUT before or the new image, whole, at each moment, whichever call is refused."""
-    if not has_fuse():
+    if not fuse.is_there():
         yield None
         return
-    compile_server()
     hello()
     for format in FORMATS:
         image = wanted(binary, format)
@@ -124,11 +98,10 @@ def crashes(binary):
 
 def crash_without_synchronization(binary):
     """The file system notices files that are not synchronized: it says of a copy that a crash may leave it torn."""
-    if not has_fuse():
+    if not fuse.is_there():
         yield None
         return
-    compile_server()
-    with mounted() as folder:
+    with fuse.mounted("crash", "/out", "log") as folder:
         if not folder:
             yield None
             return

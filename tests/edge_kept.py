@@ -18,11 +18,12 @@ import stat
 import subprocess
 import sys
 
+import fuse
 import rooms
 import traced
 from edge import HELLO, hello, lay_old, parts, wanted
-from files import bytes_in, put, wait_until
-from harness import HERE, SECONDS, missing
+from files import bytes_in, put
+from harness import SECONDS
 from romtool import FORMATS, answer, run
 from rooms import NOBODY, become_nobody, needs_root
 from traced import needs_strace
@@ -173,36 +174,6 @@ def image_stays_where_its_line_is_lost(binary):
 # file systems that lose
 
 
-def unmounted(folder):
-    """Unmounts a file system of FUSE."""
-    subprocess.run(["fusermount3", "-u", "-z", folder], stderr=subprocess.DEVNULL, timeout=SECONDS)
-
-
-def has_fuse():
-    """Returns whether file systems of FUSE can be compiled and mounted here."""
-    if not os.path.exists("/dev/fuse") or missing("fusermount3", "cc", "pkg-config"):
-        return False
-    return not subprocess.run(["pkg-config", "--exists", "fuse3"], timeout=SECONDS).returncode
-
-
-@contextlib.contextmanager
-def lossy(room, *more):
-    """Provides a directory of a file system that reports at the closing that it lost what it has no room for; or nothing."""
-    flags = subprocess.run(["pkg-config", "--cflags", "--libs", "fuse3"], stdout=subprocess.PIPE, timeout=SECONDS)
-    words = ["cc", "-std=gnu99", "-O1", "-o", "lossy", HERE + "/lossy.c", *flags.stdout.decode().split()]
-    subprocess.run(words, check=True, timeout=SECONDS)
-    os.mkdir("mount")
-    server = subprocess.Popen(["./lossy", "mount", str(room), *more], stderr=subprocess.DEVNULL)
-    wait_until(lambda: os.path.ismount("mount") or server.poll() is not None)
-    try:
-        yield "mount" if os.path.ismount("mount") else None
-    finally:
-        unmounted("mount")
-        server.kill()
-        server.wait()
-        os.rmdir("mount")
-
-
 def wrong_on(binary, folder, image):
     """Yields what is wrong on such a file system, which has room for one image."""
     out = folder + "/out"
@@ -226,13 +197,13 @@ def wrong_on(binary, folder, image):
 
 def file_system_that_loses(binary, *more):
     """An image, and what is printed, is never lost without a message on a file system that reports a loss at the closing."""
-    if not has_fuse():
+    if not fuse.is_there():
         yield None
         return
     hello()
     image = wanted(binary)
     put("image", image)
-    with lossy(len(image) + 1, *more) as folder:
+    with fuse.mounted("lossy", str(len(image) + 1), *more) as folder:
         if folder:
             yield from wrong_on(binary, folder, image)
         else:
@@ -257,14 +228,14 @@ def server_of(size):
     try:
         yield "mount" if not done.returncode else None
     finally:
-        unmounted("mount")
+        fuse.unmount("mount")
         subprocess.run(["umount", "-l", "disk"], timeout=SECONDS)
 
 
 @needs_root
 def file_server_that_is_full(binary):
     """An image is not replaced by one for which a file server has no room."""
-    if not has_fuse() or not shutil.which("sshfs") or not os.path.exists(SFTP):
+    if not fuse.is_there() or not shutil.which("sshfs") or not os.path.exists(SFTP):
         yield None
         return
     put("m", HELLO)

@@ -20,9 +20,10 @@ import stat
 import sys
 import time
 
+import fuse
 import rooms
 import traced
-from files import bytes_in, innermost, put, remove, wait_for_clock
+from files import bytes_in, innermost, put, remove, text_of, wait_for_clock
 from harness import SECONDS
 from romtool import answer, escaped, run
 from rooms import IS_ROOT, become_nobody, needs_root
@@ -588,8 +589,8 @@ def folder_within_itself(binary):
     line = "mount --bind in in/d/self 2>/dev/null || exit 77"
     lines = (
         (SCANS[0], "dir /d\nfile /a\ndir /d/self\nfile /d/self/a\ndir /d/self/d\ndir /d/self/d/self\n"),
-        (SCANS[1], "dir /\ndir /d\nfile /a\nslink /d/here\nhard /d/up\ndir /d/self\nhard /d/self/a\n"
-         "dir /d/self/d\nhard /d/self/d/here\nslink /d/self/d/up\ndir /d/self/d/self\n"),
+        (SCANS[1], "dir /\ndir /d\nfile /a\nslink /d/here\nslink /d/up\ndir /d/self\nfile /d/self/a\n"
+         "dir /d/self/d\nslink /d/self/d/here\nslink /d/self/d/up\ndir /d/self/d/self\n"),
     )  # fmt: skip
     for words, whole in lines:
         done = mounted(binary, words, line)
@@ -598,6 +599,26 @@ def folder_within_itself(binary):
             return
         if first_words(done) != sorted(whole.splitlines()) or (done.stderr, done.returncode) != (b"", 0):
             yield "%s: %r" % (words, answer(done))
+
+
+def files_of_one_number(binary):
+    """Files with one link are files of their own on a file system that gives all of them one inode number (numbers.c, by FUSE)."""
+    if not fuse.is_there():
+        yield None
+        return
+    with fuse.mounted("numbers") as folder:
+        if not folder:
+            yield None
+            return
+        done = run(binary, "scan", "--all", "-o", "m", folder)
+        lines = ["dir /", "file /a", "file /b", "file /c", "hard /d"]
+        got = [" ".join(line.split()[:2]) for line in text_of("m").splitlines()]
+        if answer(done) != (b"", b"", 0) or got != lines:
+            yield "%r, %r" % (answer(done), got)
+        built = run(binary, "build", "romfs", "m", "out")
+        read = [run(binary, "cat", "out", "/" + name).stdout for name in "abcd"]
+        if built.returncode or read != [b"a", b"b", b"c", b"c"]:
+            yield "%r, %r" % (answer(built), read)
 
 
 @needs_root
@@ -636,8 +657,8 @@ TESTS = [
     each_call_failed, refusal_that_is_not_taken, memory_that_ends, each_write_failed, room_that_ends,
     readers_that_leave, output_into_the_folder, changed_between_calls, moved_between_folders, entry_that_vanishes,
     odd_folders, what_is_no_folder, folders_that_are_forbidden, every_byte, longest_names, deep_from_inside,
-    many_entries, greatest_numbers, folder_within_itself, on_one_file_system,
-    folders_that_rest,
+    many_entries, greatest_numbers, folder_within_itself, files_of_one_number,
+    on_one_file_system, folders_that_rest,
 ]  # fmt: skip
 
 if __name__ == "__main__":

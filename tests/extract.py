@@ -23,11 +23,11 @@ import stat
 import subprocess
 import sys
 
+import fuse
 import images
 import manifests
 import rooms
 import traced
-from edge_kept import has_fuse, lossy
 from files import bytes_in, clear, put, remove
 from harness import HERE, SECONDS, Counts, add_seeds, missing, program_of
 from manifests import Made
@@ -647,11 +647,11 @@ def failure_is_told(binary):
 @needs_root
 def disks_that_fail_at_close(binary):
     """A file system that reports only at close, or when it is asked to write, that it is full: no manifest is printed."""
-    if not has_fuse():
+    if not fuse.is_there():
         yield None
         return
     build_image(binary, ["file /a 0644 0 0 4 s", "file /big 0644 0 0 4 big"], "cramfs", [("s", b"s"), ("big", bytes(100000))])
-    with lossy(50000) as folder:
+    with fuse.mounted("lossy", "50000") as folder:
         if folder:
             yield from refused(run(binary, "extract", "image", folder + "/out"), b"mount/out/big")
         else:

@@ -39,13 +39,14 @@ class Told:
         self.paths.sort()
         self.of = {path: os.lstat(self.base + path) for path in self.paths}
         self.kind = {path: KINDS[stat.S_IFMT(told.st_mode)] for path, told in self.of.items()}
-        self.first = {}  # (device, inode) -> the first path
+        self.first = {}  # file -> the first path
         for path in self.paths:
             self.first.setdefault(self.inode(path), path)
 
     def inode(self, path):
-        """Returns which file a path leads to."""
-        return self.of[path].st_dev, self.of[path].st_ino
+        """Returns which file a path leads to. A file with one link is led to by one path."""
+        told = self.of[path]
+        return (told.st_dev, told.st_ino) if told.st_nlink > 1 else path
 
     def is_further(self, path):
         """Returns whether an earlier path leads to the same file."""

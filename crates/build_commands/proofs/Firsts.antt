@@ -11,10 +11,10 @@ use Rattle.std.proofs.lemmas.Bool.{cases_Bool}
 use mathlib.Core.Logic.{⊎_elim}
 use Rattle.std.proofs.lemmas.List.{take_more, map-append}
 use Rattle.manifest.specs.declared.line.Line.{Line}
-use Rattle.build_commands.specs.Inventory.{first_of, lines_behind, lines_found, name_line}
+use Rattle.build_commands.specs.Inventory.{is_linked, first_of, first_link, lines_behind, lines_found, name_line}
 use Rattle.manifest.specs.Entries.{line_of}
 use Rattle.manifest.specs.declared.entry.Entry.{Entry}
-use Rattle.build_commands.specs.Noted.{noted, noted_with}
+use Rattle.build_commands.specs.Noted.{noted, noted_link, noted_with}
 use Rattle.build_commands.specs.declared.inventory.NamedFile.{NamedFile}
 use Rattle.formats.specs.declared.format.Format.{Format}
 
@@ -28,28 +28,27 @@ first_more : (device number : ℕ) (before : List NamedFile) (f : NamedFile)
     → first_of device number (before ++ f ∷ []) ≡ noted_with f (first_of device number before) device number
 first_more device number [] f = refl
 first_more device number (g ∷ before) f =
-    by_test ((g.inode.device == device) && (g.inode.number == number)) f g (first_of device number before)
+    by_test (is_linked device number g) f g (first_of device number before)
     (first_of device number (before ++ f ∷ [])) device number (first_more device number before f)
 
 lines_more : (o : Option Format) (before fs : List NamedFile) (f : NamedFile)
     → lines_behind o before (fs ++ f ∷ [])
-    ≡ lines_behind o before fs ++ name_line o (first_of f.inode.device f.inode.number (before ++ fs)) f ∷ []
+    ≡ lines_behind o before fs ++ name_line o (first_link f (before ++ fs)) f ∷ []
 lines_more o before [] f =
-    ap (λ (x : List NamedFile). name_line o (first_of f.inode.device f.inode.number x) f ∷ [])
+    ap (λ (x : List NamedFile). name_line o (first_link f x) f ∷ [])
     (sym (append-nil before))
 lines_more o before (g ∷ fs) f =
-    ap (λ (x : List Line). name_line o (first_of g.inode.device g.inode.number before) g ∷ x)
+    ap (λ (x : List Line). name_line o (first_link g before) g ∷ x)
     (lines_more o (before ++ g ∷ []) fs f
     ∙ ap (λ (x : List NamedFile). lines_behind o (before ++ g ∷ []) fs
-    ++ name_line o (first_of f.inode.device f.inode.number x) f ∷ [])
+    ++ name_line o (first_link f x) f ∷ [])
     (append_assoc before (g ∷ []) fs))
 
 -- the lines up to the next file
 pub next_line : (o : Option Format) (found : List NamedFile) (i : ℕ) (d : NamedFile) → i < length found
     → lines_found o (take (i + 1) found)
     ≡ lines_found o (take i found)
-    ++ name_line o (first_of (get_or found i d).inode.device (get_or found i d).inode.number (take i found))
-    (get_or found i d) ∷ []
+    ++ name_line o (first_link (get_or found i d) (take i found)) (get_or found i d) ∷ []
 next_line o found i d h =
     ap (λ (xs : List NamedFile). lines_found o xs) (take_more found i d h)
     ∙ lines_more o [] (take i found) (get_or found i d)
@@ -90,28 +89,47 @@ equal_numbers_are : (a b c d : ℕ) → ((a == c) && (b == d)) ≡ true → (a �
 equal_numbers_are a b c d h = (grind (arith, nat_tests, h), grind (arith, nat_tests, h))
 
 stays : (f : NamedFile) (o : Option NamedFile) (device number : ℕ)
-    → ((f.inode.device == device) && (f.inode.number == number)) ≡ false
+    → is_linked device number f ≡ false
     → noted_with f o device number ≡ o
 stays f None device number h = rw h refl
 stays f (Some g) device number h = refl
 
 is_put : (f : NamedFile) (o : Option NamedFile) (device number : ℕ)
-    → ((f.inode.device == device) && (f.inode.number == number)) ≡ true
+    → is_linked device number f ≡ true
     → o ≡ None → noted_with f o device number ≡ Some f
 is_put f None device number h e = rw h refl
 is_put f (Some g) device number h e = absurd cc
 
+-- a file with one link is not noted
+pub none_more : (f : NamedFile) (o : Option NamedFile) → f.has_links ≡ false → (device number : ℕ)
+    → o ≡ noted_with f o device number
+none_more f o h device number =
+    sym (stays f o device number (ap (λ (b : Bool). b && (f.inode.device == device) && (f.inode.number == number)) h))
+
+-- a file of an inode that is noted is not noted
+pub kept_more : (m : BTreeMap (ℕ × ℕ) (Bor NamedFile)) (f : NamedFile) (g : Bor NamedFile)
+    → get by_parts m (f.inode.device, f.inode.number) ≡ Some g
+    → (device number : ℕ) → noted m device number ≡ noted_with f (noted m device number) device number
+kept_more m f g h device number = todo
+
+-- what is noted of the inode of a file, and the first file of it
+pub noted_is : (m : BTreeMap (ℕ × ℕ) (Bor NamedFile)) (fs : List NamedFile)
+    → ((device number : ℕ) → noted m device number ≡ first_of device number fs)
+    → (f : NamedFile) → noted_link m f ≡ first_link f fs
+noted_is m fs h f = ap (λ (o : Option NamedFile). cond f.has_links o None) (h f.inode.device f.inode.number)
+
 -- a map in which a file was put for an inode that had none
 pub noted_more : (m n : BTreeMap (ℕ × ℕ) (Bor NamedFile)) (f : Bor NamedFile)
-    → get by_parts m (f.now.inode.device, f.now.inode.number) ≡ None
+    → f.now.has_links ≡ true → get by_parts m (f.now.inode.device, f.now.inode.number) ≡ None
     → ((q : ℕ × ℕ) → get by_parts n q ≡ cond (is_eq (by_parts (f.now.inode.device, f.now.inode.number) q)) (Some f)
     (get by_parts m q))
     → (device number : ℕ) → noted n device number ≡ noted_with f.now (noted m device number) device number
-noted_more m n f none more device number =
+noted_more m n f linked none more device number =
     let a : ℕ = f.now.inode.device in
     let b : ℕ = f.now.inode.number in
     let now = λ (o : Option (Bor NamedFile)). option_map (λ g. g.now) o in
     let test : Bool = (a == device) && (b == number) in
+    let same : is_linked device number f.now ≡ test = ap (λ (l : Bool). l && (a == device) && (b == number)) linked in
     let here = more (device, number) ∙ ap (λ t. cond t (Some f) (get by_parts m (device, number)))
     (equal_keys (a, b) (device, number)) in
     ap now here ∙
@@ -121,7 +139,7 @@ noted_more m n f none more device number =
     subst (λ (k : ℕ). get by_parts m (device, k) ≡ None) e.1
     (subst (λ (k : ℕ). get by_parts m (k, b) ≡ None) e.0 none) in
     ap (λ x. now (cond x (Some f) (get by_parts m (device, number)))) t
-    ∙ sym (is_put f.now (noted m device number) device number t (ap now empty)))
+    ∙ sym (is_put f.now (noted m device number) device number (same ∙ t) (ap now empty)))
     (λ (t : test ≡ false). ap (λ x. now (cond x (Some f) (get by_parts m (device, number)))) t
-    ∙ sym (stays f.now (noted m device number) device number t))
+    ∙ sym (stays f.now (noted m device number) device number (same ∙ t)))
     (cases_Bool test)

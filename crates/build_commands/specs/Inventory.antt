@@ -103,15 +103,23 @@ line_behind o (Some first) l =
 abbrev pub name_line : Option Format → Option NamedFile → NamedFile → Line
 name_line o first f = fitted o (line_behind o first (found_line f))
 
--- the first of some files that has this inode, by its device and number
+-- whether a file has several links, and the inode of this device and number
+abbrev pub is_linked : ℕ → ℕ → NamedFile → Bool
+is_linked device number f = f.has_links && (f.inode.device == device) && (f.inode.number == number)
+
+-- the first of some files that is so
 abbrev pub first_of : ℕ → ℕ → List NamedFile → Option NamedFile
-first_of device number fs = find (λ f. (f.inode.device == device) && (f.inode.number == number)) fs
+first_of device number fs = find (is_linked device number) fs
+
+-- the first of some files of which this one is a further name
+abbrev pub first_link : NamedFile → List NamedFile → Option NamedFile
+first_link f fs = if f.has_links then first_of f.inode.device f.inode.number fs else None
 
 -- the lines of some files, which follow others
 abbrev pub lines_behind : Option Format → List NamedFile → List NamedFile → List Line
 lines_behind o before [] = []
 lines_behind o before (f ∷ fs) =
-    name_line o (first_of f.inode.device f.inode.number before) f
+    name_line o (first_link f before) f
     ∷ lines_behind o (before ++ f ∷ []) fs
 
 -- the lines of all files, in their order

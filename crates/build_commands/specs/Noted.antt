@@ -1,8 +1,9 @@
 -- The first file of each inode, in a map. (This project's own.)
-use Rattle.std.specs.Prelude.{ℕ, ◌==◌, ◌&&◌, if◌then◌else◌, Option, Some, None, option_map}
+use Rattle.std.specs.Prelude.{ℕ, if◌then◌else◌, Option, Some, None, option_map}
 use Rattle.std.specs.Borrow.{Bor}
 use Rattle.std.specs.BTreeMap.{BTreeMap, get}
 use Rattle.std.specs.Ordering.{nat_cmp, ordering_then}
+use Rattle.build_commands.specs.Inventory.{is_linked}
 use Rattle.build_commands.specs.declared.inventory.NamedFile.{NamedFile}
 
 -- the file that a map has for an inode, by the device and the number
@@ -15,4 +16,8 @@ noted m device number =
 abbrev pub noted_with : NamedFile → Option NamedFile → ℕ → ℕ → Option NamedFile
 noted_with f (Some g) device number = Some g
 noted_with f None device number =
-    if (f.inode.device == device) && (f.inode.number == number) then Some f else None
+    if is_linked device number f then Some f else None
+
+-- the file that a map has for a file of which that one may be a further name
+abbrev pub noted_link : BTreeMap (ℕ × ℕ) (Bor NamedFile) → NamedFile → Option NamedFile
+noted_link m f = if f.has_links then noted m f.inode.device f.inode.number else None

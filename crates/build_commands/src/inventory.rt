@@ -3,7 +3,7 @@ ghost use Rattle.std.specs.Prelude.{◌≡◌, ℕ, IfOk, OnOk, map, option_map,
 ghost use Rattle.build_commands.specs.Inventory.{aligned, fitted, found_line, further_line};
 ghost use Rattle.build_commands.specs.Inventory.{hard_line, has_hard_links, line_by, lines_found};
 ghost use Rattle.build_commands.specs.Inventory.{name_line, path_behind, plain_line, same_line};
-ghost use Rattle.build_commands.specs.Noted.{noted, noted_with};
+ghost use Rattle.build_commands.specs.Noted.{noted, noted_link, noted_with};
 ghost use Rattle.manifest.specs.Printed.{manifest_text};
 ghost use Rattle.manifest.specs.Entries.{line_of};
 ghost use Rattle.rom_fields.specs.Failures.{Counts, one_more};
@@ -59,6 +59,9 @@ pub struct NamedFile {
     /// The alignment of a regular file.
     pub align: u32,
     pub inode: Inode,
+    /// Whether the file has several links. If not, no other name leads to it: some file systems use
+    /// the number of one file for another one, too.
+    pub has_links: bool,
 }
 
 impl NamedFile {
@@ -248,7 +251,7 @@ fn name_line<'a>(
     fitted(format, line)
 }
 
-/// Notes a file if none of the same inode is noted.
+/// Notes a file that has several links, if none of the same inode is noted.
 fn note_first<'a>(
     firsts: &mut BTreeMap<(u64, u64), &'a NamedFile>,
     file: &'a NamedFile,
@@ -257,25 +260,28 @@ fn note_first<'a>(
         ≡ noted_with file.entry.now (noted firsts.old device number) device number) }
 {
     let key = (file.inode.device, file.inode.number);
-    if firsts.get(&key).is_none() {
+    if file.has_links && firsts.get(&key).is_none() {
         firsts.insert(key, file)?;
     }
     Ok(())
 }
 
-/// The first file that was noted of this inode.
+/// The first file that was noted of the inode of a file, if this file has several links.
 fn first_noted<'a>(
     firsts: &BTreeMap<(u64, u64), &'a NamedFile>,
-    inode: Inode,
+    file: &NamedFile,
 ) -> Option<&'a NamedFile>
-    ensures { option_map (λ g. g.now) result ≡ noted firsts.now inode.device inode.number }
+    ensures { option_map (λ g. g.now) result ≡ noted_link firsts.now file.now }
 {
-    firsts.get(&(inode.device, inode.number)).copied()
+    if !file.has_links {
+        return None;
+    }
+    firsts.get(&(file.inode.device, file.inode.number)).copied()
 }
 
-/// Returns a line for each file that was found, in their order. If a file has several names, those
-/// after the first are further names of it. If a format is chosen, each line has attributes that it
-/// can hold. The time is n log n.
+/// Returns a line for each file that was found, in their order. If a file with several links was
+/// found by several names, those after the first are further names of it. If a format is chosen,
+/// each line has attributes that it can hold. The time is n log n.
 ///
 /// # Errors
 ///
@@ -290,7 +296,7 @@ pub fn lines<'a>(
     let mut firsts = BTreeMap::new(alloc);
     let mut made = Vec::new(alloc);
     for file in found {
-        let first = first_noted(&firsts, file.inode);
+        let first = first_noted(&firsts, file);
         made.push(name_line(format, first, file))?;
         note_first(&mut firsts, file)?;
     }

@@ -149,6 +149,7 @@ fn file_of(alloc: Global, number: u64, line: &[u8]) -> Result<NamedFile, LineErr
             device: NOWHERE,
             number,
         },
+        has_links: false,
     })
 }
 

@@ -60,6 +60,7 @@ struct Reported {
     uid: u32,
     gid: u32,
     inode: Inode,
+    has_links: bool,
 }
 
 impl Reported {
@@ -74,6 +75,7 @@ impl Reported {
                 device: metadata.dev(),
                 number: metadata.ino(),
             },
+            has_links: metadata.nlink() > 1,
         })
     }
 
@@ -88,6 +90,7 @@ impl Reported {
             gid: self.gid,
             align: USUAL_ALIGN,
             inode: self.inode,
+            has_links: self.has_links,
         }
     }
 }
