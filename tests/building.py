@@ -17,7 +17,7 @@ import subprocess
 import sys
 
 import rooms
-from files import bytes_in, put
+from files import bytes_in, put, remove
 from harness import SECONDS
 from romtool import answer, run
 
@@ -337,6 +337,31 @@ def rules_that_fail(binary):
         yield "%r" % (answer(done),)
 
 
+def rules_named_like_parts(binary):
+    """FILE is refused if it has the name of a part of OUT, or the reverse. Neither is removed as a part of the other."""
+    put("m", b"file /a 0644 0 0 4 a\n")
+    put("a", b"x")
+    for whole, part in (("x", "x.0.part"), ("./x", "x.99.part")):
+        for rule, out in ((whole, part), (part, whole)):
+            for old in (False, True):
+                if old:
+                    put("x", b"old")
+                    put("x.0.part", b"old part")
+                yield from refused(binary, (b"", b"file %s\n" % rule.encode(), 3), "--depfile", rule, "romfs", "m", out)
+                remove("x")
+                remove("x.0.part")
+    put("x.0.part", b"old part")
+    os.symlink("x.0.part", "link")
+    done = run(binary, "build", "--depfile", "link", "romfs", "m", "x")
+    if answer(done) != (b"ok 1024\n", b"", 0) or bytes_in("x.0.part") != b"x: \\\n  m \\\n  a\n" or not os.path.islink("link"):
+        yield "a link to a part: %r" % (answer(done),)
+    for name in ("x.100.part", "x.part", "x.a.part", "x.0.parts", "d/x.0.part"):
+        os.makedirs("d", exist_ok=True)
+        done = run(binary, "build", "--depfile", name, "romfs", "m", "x")
+        if answer(done) != (b"ok 1024\n", b"", 0):
+            yield "%s: %r" % (name, answer(done))
+
+
 # all errors
 
 
@@ -457,7 +482,7 @@ def without_a_reader(binary):
 
 TESTS = (
     sizes, room, strict, foreseen, sources_in_a_folder, on_standard_input, rules, unsayable_rules, rules_that_fail,
-    all_bad_lines, all_missing_sources, shared_pages, environment, without_a_reader,
+    rules_named_like_parts, all_bad_lines, all_missing_sources, shared_pages, environment, without_a_reader,
 )  # fmt: skip
 
 

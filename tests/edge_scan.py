@@ -621,6 +621,24 @@ def files_of_one_number(binary):
             yield "%r, %r" % (answer(built), read)
 
 
+def manifest_over_its_output(binary):
+    """`-o` does not replace the file of standard output, nor remove it as an old part. A pipe is written."""
+    os.mkdir("in")
+    put("in/a", b"a")
+    for name, of in (("/dev/stdout", "kept"), ("kept", "kept"), ("m", "m.0.part")):
+        put(of, b"kept")
+        with open(of, "ab") as output:
+            done = run(binary, "scan", "--all", "-o", name, "in", stdout=output)
+        told = (b"", 0) if name == "m" else (b"file %s\n" % name.encode(), 3)
+        if (done.stderr, done.returncode) != told or bytes_in(of) != b"kept":
+            yield "%s: %r" % (name, answer(done))
+    if bytes_in("m") != wanted(["scan", "--all"]):
+        yield "%r" % bytes_in("m")
+    done = run(binary, "scan", "--all", "-o", "/dev/stdout", "in")
+    if answer(done) != (wanted(["scan", "--all"]), b"", 0):
+        yield "a pipe: %r" % (answer(done),)
+
+
 @needs_root
 def on_one_file_system(binary):
     """`--one-file-system` lists a directory that another file system is mounted on, and does not look into it."""
@@ -658,7 +676,7 @@ TESTS = [
     readers_that_leave, output_into_the_folder, changed_between_calls, moved_between_folders, entry_that_vanishes,
     odd_folders, what_is_no_folder, folders_that_are_forbidden, every_byte, longest_names, deep_from_inside,
     many_entries, greatest_numbers, folder_within_itself, files_of_one_number,
-    on_one_file_system, folders_that_rest,
+    manifest_over_its_output, on_one_file_system, folders_that_rest,
 ]  # fmt: skip
 
 if __name__ == "__main__":

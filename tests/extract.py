@@ -269,8 +269,10 @@ def folders_that_are_there(binary):
     put("file", b"file")
     os.symlink("nothing", "dangling")
     os.symlink("full", "to_full")
+    os.mkfifo("pipe")
+    os.symlink("pipe", "to_pipe")
     before = sorted(os.walk("."))
-    for name in (b"full", b"file", b"dangling", b"to_full", b"no/folder", b"empty", b"/", b""):
+    for name in (b"full", b"file", b"dangling", b"to_full", b"pipe", b"to_pipe", b"no/folder", b"empty", b"/", b""):
         yield from refused(run(binary, "extract", "image", name), name)
     if sorted(os.walk(".")) != before or bytes_in("file") != b"file":
         yield "something was changed"

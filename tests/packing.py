@@ -135,7 +135,13 @@ class Merged:
         return mode, min(owner[0], limits[0]), min(owner[1], limits[1])
 
     def align(self, path, align, rules):
-        """The alignment of a regular file."""
+        """The alignment of a regular file: the largest of its names."""
+        file = self.of[path].inode(path)
+        names = [name for name in self.paths if self.of[name].inode(name) == file]
+        return max(self.align_by(name, align, rules) for name in names)
+
+    def align_by(self, path, align, rules):
+        """The alignment of a regular file by one of its names."""
         for pattern, number in reversed(rules):
             if is_matched(pattern, path):
                 return number

@@ -100,18 +100,6 @@ is_put : (f : NamedFile) (o : Option NamedFile) (device number : ℕ)
 is_put f None device number h e = rw h refl
 is_put f (Some g) device number h e = absurd cc
 
--- a file with one link is not noted
-pub none_more : (f : NamedFile) (o : Option NamedFile) → f.has_links ≡ false → (device number : ℕ)
-    → o ≡ noted_with f o device number
-none_more f o h device number =
-    sym (stays f o device number (ap (λ (b : Bool). b && (f.inode.device == device) && (f.inode.number == number)) h))
-
--- a file of an inode that is noted is not noted
-pub kept_more : (m : BTreeMap (ℕ × ℕ) (Bor NamedFile)) (f : NamedFile) (g : Bor NamedFile)
-    → get by_parts m (f.inode.device, f.inode.number) ≡ Some g
-    → (device number : ℕ) → noted m device number ≡ noted_with f (noted m device number) device number
-kept_more m f g h device number = todo
-
 -- what is noted of the inode of a file, and the first file of it
 pub noted_is : (m : BTreeMap (ℕ × ℕ) (Bor NamedFile)) (fs : List NamedFile)
     → ((device number : ℕ) → noted m device number ≡ first_of device number fs)

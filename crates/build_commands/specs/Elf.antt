@@ -1,6 +1,6 @@
 -- ELF executables and shared objects, by the first bytes of a file. (System V gABI, "ELF Header":
 -- e_ident and e_type.)
-use Rattle.std.specs.Prelude.{ℕ, ◌+◌, ◌*◌, ◌==◌, ◌&&◌, ◌||◌, Bool, false, List, [], ◌∷◌, drop}
+use Rattle.std.specs.Prelude.{ℕ, ◌+◌, ◌*◌, ◌==◌, ◌&&◌, ◌||◌, Bool, List}
 use Rattle.std.specs.Prelude.{slice_index}
 
 -- ELFMAG: 0x7f, `E`, `L` and `F`

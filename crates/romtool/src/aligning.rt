@@ -4,12 +4,18 @@ use crate::reporter::Reporter;
 use build_commands::elf::{HEAD_LEN, is_program};
 use build_commands::inventory::{FileKind, NamedFile, align_of};
 use program_streams::read_until;
-use rom_commands::Status;
+use rom_commands::{Ending, Status};
+use rom_fields::OutOfMemory;
+use std::alloc::Global;
+use std::collections::BTreeMap;
 use std::fs::{File, OpenFile};
 use std::io;
 
 /// The execute bits of a mode.
 const EXECUTE: u32 = 0o111;
+
+/// Alignments of files, by their devices and numbers.
+type Largest = BTreeMap<(u64, u64), u32>;
 
 /// Whether the file of this name is an executable or a shared object, by its first bytes.
 fn is_program_at(rt: &HostRuntime, name: &str) -> io::Result<bool> {
@@ -43,10 +49,35 @@ fn align_at(
     Ok(align_of(file.mode, is_program, align))
 }
 
-/// Sets the alignment of each regular file: that of the last pattern that matches its path;
-/// otherwise this one if the file is a program, a library or executable. Reports a file that cannot
-/// be read.
-pub fn align_all(
+/// The largest alignment of each file with several links, by its device and number.
+fn largest_of(alloc: Global, found: &[NamedFile]) -> Result<Largest, OutOfMemory> {
+    let mut largest: Largest = BTreeMap::new(alloc);
+    for file in found {
+        if file.has_links {
+            let key = (file.inode.device, file.inode.number);
+            let before = largest.get(&key).copied().unwrap_or(0);
+            largest.insert(key, file.align.max(before))?;
+        }
+    }
+    Ok(largest)
+}
+
+/// Gives each name of a file with several links the largest alignment of its names, since only one
+/// name has a line with an alignment.
+fn share(largest: &Largest, found: &mut [NamedFile]) {
+    for file in found {
+        let key = (file.inode.device, file.inode.number);
+        if file.has_links
+            && let Some(align) = largest.get(&key)
+        {
+            file.align = *align;
+        }
+    }
+}
+
+/// Sets the alignment of each regular file by its path, mode and contents. Reports a file that
+/// cannot be read.
+fn align_each(
     reporter: &Reporter<'_>,
     patterns: &Patterns,
     align: u32,
@@ -61,4 +92,23 @@ pub fn align_all(
         }
     }
     Ok(())
+}
+
+/// Sets the alignment of each regular file: that of the last pattern that matches its path;
+/// otherwise this one if the file is a program, a library or executable. A file with several names
+/// has the largest alignment of these names. Reports a file that cannot be read.
+pub fn align_all(
+    reporter: &Reporter<'_>,
+    patterns: &Patterns,
+    align: u32,
+    found: &mut [NamedFile],
+) -> Result<(), Status> {
+    align_each(reporter, patterns, align, found)?;
+    match largest_of(reporter.rt.alloc(), found) {
+        Ok(largest) => {
+            share(&largest, found);
+            Ok(())
+        }
+        Err(_) => Err(reporter.say(Ending::Memory)),
+    }
 }

@@ -15,7 +15,7 @@ use crate::reporter::Reporter;
 use crate::sources::{joined_names, names_of, sizes_of, stamps_of, texts_of};
 use crate::stamp::{Identity, Stamp, has_changed, let_rest};
 use crate::target::{FillError, Target};
-use crate::{bad_lines, depfile, explained, reading, warned};
+use crate::{bad_lines, depfile, explained, own_output, reading, warned};
 use build_commands::{print_bad_manifest, print_built, print_misfit, print_size, print_strict};
 use command_line::Build;
 use image_build::StreamError;
@@ -29,8 +29,6 @@ use rom_fields::{Failed, Plain};
 use sentences::reasons::{
     NOT_TAKEN, OWN_INPUT, OWN_OUTPUT, PART_REPLACED, SOURCE_CHANGED, SOURCE_UNREAD, SUM_DIFFERS,
 };
-use std::fs::Metadata;
-use std::os::unix::fs::{FileTypeExt, MetadataExt};
 use std::{fs, io};
 
 /// The word for a manifest on standard input.
@@ -38,12 +36,6 @@ const INPUT: &str = "-";
 
 /// The number of bytes of a source that are read at once, if there is memory for them.
 const LARGE: usize = 256 << 10;
-
-/// The name by which the system opens standard output.
-const OUTPUT: &str = "/proc/self/fd/1";
-
-/// The device number of `/dev/null`, 1 and 3, as Linux packs it.
-const NULL_DEVICE: u64 = 0x103;
 
 /// The ending of a refusal whose line was written.
 fn printed(reporter: &Reporter<'_>, written: Result<(), Failed>) -> Status {
@@ -169,16 +161,6 @@ impl Files<'_> {
     }
 }
 
-/// Whether a file is the program's own standard output and keeps what is written to it. Then the
-/// line `ok LENGTH` would get into the image, or into a file without a name.
-fn is_own_output(rt: &HostRuntime, found: &Metadata) -> bool {
-    let is_null = found.file_type().is_char_device() && found.rdev() == NULL_DEVICE;
-    match fs::metadata(rt, OUTPUT) {
-        Ok(output) => !is_null && Identity::of(&output) == Identity::of(found),
-        Err(_) => false,
-    }
-}
-
 /// What an image is made of: the file of its manifest, if it has one, and its sources.
 #[derive(Clone, Copy)]
 struct Inputs<'a> {
@@ -193,11 +175,16 @@ impl Inputs<'_> {
             || self.stamps.iter().any(|stamp| stamp.identity() == identity)
     }
 
-    /// Which files these are, and standard output.
-    fn identities(&self, rt: &HostRuntime) -> io::Result<Vec<Identity>> {
+    /// Which files these are, standard output, and the file of this name, which is written, too.
+    fn identities(&self, rt: &HostRuntime, written: Option<&str>) -> io::Result<Vec<Identity>> {
         let mut all = Vec::new(rt.alloc());
-        if let Ok(output) = fs::metadata(rt, OUTPUT) {
-            all.push(Identity::of(&output))?;
+        if let Some(output) = own_output::identity(rt) {
+            all.push(output)?;
+        }
+        if let Some(name) = written
+            && let Ok(found) = fs::metadata(rt, name)
+        {
+            all.push(Identity::of(&found))?;
         }
         if let Some(manifest) = self.manifest {
             all.push(manifest)?;
@@ -209,13 +196,14 @@ impl Inputs<'_> {
     }
 }
 
-/// Refuses a file that must not be written, since the image is made of it or it is standard output.
+/// Refuses a file that must not be written, since the image is made of it or it is standard output:
+/// then the line `ok LENGTH` would get into the image, or into a file without a name.
 fn check_output(reporter: &Reporter<'_>, name: &str, inputs: Inputs<'_>) -> Result<(), Status> {
     if let Ok(found) = fs::metadata(reporter.rt, name) {
         if inputs.has(Identity::of(&found)) {
             return Err(reporter.failed(name.as_bytes(), &OWN_INPUT));
         }
-        if is_own_output(reporter.rt, &found) {
+        if own_output::is_own(reporter.rt, &found) {
             return Err(reporter.failed(name.as_bytes(), &OWN_OUTPUT));
         }
     }
@@ -223,9 +211,14 @@ fn check_output(reporter: &Reporter<'_>, name: &str, inputs: Inputs<'_>) -> Resu
 }
 
 /// Opens the target of an image. It is neither the manifest nor a source, nor standard output.
-fn target_of(reporter: &Reporter<'_>, out: &str, inputs: Inputs<'_>) -> Result<Target, Status> {
+fn target_of(
+    reporter: &Reporter<'_>,
+    asked: Build<'_>,
+    inputs: Inputs<'_>,
+) -> Result<Target, Status> {
+    let out = asked.out;
     check_output(reporter, out, inputs)?;
-    let opened = match inputs.identities(reporter.rt) {
+    let opened = match inputs.identities(reporter.rt, asked.depfile) {
         Ok(inputs) => Target::open(reporter.rt, out, inputs),
         Err(e) => Err(e),
     };
@@ -250,7 +243,7 @@ fn rule_of(
         return Ok(None);
     };
     check_output(reporter, name, inputs)?;
-    let target = match inputs.identities(reporter.rt) {
+    let target = match inputs.identities(reporter.rt, Some(asked.out)) {
         Ok(inputs) => Target::open(reporter.rt, name, inputs),
         Err(e) => Err(e),
     };
@@ -454,7 +447,7 @@ fn write_files(
     if let Some(name) = asked.depfile {
         depfile::check(reporter, name, rule(asked, files.names))?;
     }
-    let target = target_of(reporter, asked.out, inputs)?;
+    let target = target_of(reporter, asked, inputs)?;
     let rule = match rule_of(reporter, asked, files.names, inputs, &target) {
         Ok(rule) => rule,
         Err(status) => {

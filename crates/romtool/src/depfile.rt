@@ -3,10 +3,10 @@
 //! GNU make reads a backslash before some bytes as part of a name's spelling, and has no spelling
 //! of some other bytes. A name that it cannot read is refused before anything is written.
 use crate::reporter::Reporter;
-use crate::target::Target;
+use crate::target::{Target, is_part_of};
 use rom_commands::{Ending, Status};
 use rom_fields::{ByteWrite, put};
-use sentences::reasons::{NOT_TAKEN, OWN_RULE, RULE_UNFIT};
+use sentences::reasons::{NOT_TAKEN, OWN_PART, OWN_RULE, RULE_UNFIT};
 use std::alloc::AllocError;
 
 /// The text before each name after the first.
@@ -191,13 +191,17 @@ fn write(
     })
 }
 
-/// Refuses a rule that make could not read.
+/// Refuses a rule that make could not read, and one that has the name of a part of the image, or
+/// the reverse: a part is removed or renamed.
 pub fn check(reporter: &Reporter<'_>, name: &str, rule: Rule<'_>) -> Result<(), Status> {
-    if rule.is_sayable() {
-        Ok(())
-    } else {
-        Err(reporter.failed(name.as_bytes(), &RULE_UNFIT))
+    if !rule.is_sayable() {
+        return Err(reporter.failed(name.as_bytes(), &RULE_UNFIT));
     }
+    let rt = reporter.rt;
+    if is_part_of(rt, name, rule.out) || is_part_of(rt, rule.out, name) {
+        return Err(reporter.failed(name.as_bytes(), &OWN_PART));
+    }
+    Ok(())
 }
 
 /// Writes a rule to its target, which has this name and is not the image's file. The target gets

@@ -1,4 +1,4 @@
-//! Scanned directories, and whether they changed.
+//! Directories, and whether scanned ones changed.
 use crate::reporter::Reporter;
 use crate::stamp::Stamp;
 use directory_walk::Directory;
@@ -17,12 +17,12 @@ pub fn is_foreign(e: &io::Error) -> bool {
     e.kind() == io::ErrorKind::InvalidFilename && e.raw_os_error().is_none()
 }
 
-/// Returns the directory that is scanned.
+/// Returns the attributes of the directory of this name.
 ///
 /// # Errors
 ///
 /// The operating system's error; `NotADirectory` for another file.
-pub fn top(rt: &HostRuntime, name: &str) -> io::Result<Metadata> {
+pub fn directory_at(rt: &HostRuntime, name: &str) -> io::Result<Metadata> {
     let metadata = fs::metadata(rt, name)?;
     if !metadata.is_dir() {
         return Err(io::Error::new(io::ErrorKind::NotADirectory, NO_FOLDER));

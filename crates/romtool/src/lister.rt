@@ -1,7 +1,7 @@
 //! The directories of the system, as a scan lists them.
 ghost use Rattle.std.specs.Prelude.{None, ⊤};
 
-use crate::directories::{self, base, is_foreign, opened_name};
+use crate::directories::{base, directory_at, is_foreign, opened_name};
 use crate::reporter::Reporter;
 use crate::stamp::{Stamp, let_rest};
 use directory_walk::{Directory, Listed, Lister, WalkError, Walked, walk};
@@ -152,7 +152,7 @@ pub fn all_below<S: Survey>(
     survey: &mut S,
 ) -> Result<(Metadata, Walked<S::Known, Stamp>), Status> {
     let (reporter, alloc) = (*reporter, reporter.rt.alloc());
-    let attributes = match directories::top(reporter.rt, top) {
+    let attributes = match directory_at(reporter.rt, top) {
         Ok(attributes) => attributes,
         Err(e) => return Err(reporter.refused(top.as_bytes(), &e)),
     };

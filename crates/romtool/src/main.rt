@@ -40,6 +40,7 @@ mod making;
 mod members;
 mod origin;
 mod overlay;
+mod own_output;
 mod owner;
 mod packing;
 mod parts;

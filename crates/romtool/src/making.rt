@@ -1,5 +1,6 @@
 //! Makes directories, files and links where nothing exists, and syncs them to the disk.
 use crate::closing::close;
+use crate::directories::directory_at;
 use crate::place::directory_of;
 use crate::stamp::Identity;
 use sentences::reasons::{NOT_EMPTY, OF_ANOTHER_USER, REPLACED};
@@ -150,7 +151,11 @@ impl Top {
     pub fn open(rt: &HostRuntime, name: &str) -> io::Result<Top> {
         let is_made = match new_directory(rt, name) {
             Ok(()) => true,
-            Err(e) if e.kind() == io::ErrorKind::AlreadyExists => false,
+            // a pipe without a writer must not be opened
+            Err(e) if e.kind() == io::ErrorKind::AlreadyExists => {
+                directory_at(rt, name)?;
+                false
+            }
             Err(e) => return Err(e),
         };
         let directory = File::open(rt, name)?;

@@ -1,7 +1,6 @@
 //! Prints the manifest of directories as they are.
 use crate::aligning::align_all;
 use crate::beside::KeepError;
-use crate::devices;
 use crate::inventory::all_below;
 use crate::overlay::{OverlayError, laid_over, sort};
 use crate::patterns::Patterns;
@@ -9,13 +8,16 @@ use crate::reporter::Reporter;
 use crate::stamp::Identity;
 use crate::target::Target;
 use crate::unfit::Unfit;
+use crate::{devices, own_output};
 use build_commands::inventory::{NamedFile, lines, put_found};
 use command_line::{Owner, ScanAll};
 use manifest::Entry;
 use program_streams::Again;
 use rom_commands::{Ending, Status};
 use rom_fields::{Failed, Plain};
-use sentences::reasons::{KINDS_DIFFER, LONG_NAME, MANIFEST_NOT_TAKEN, OWN_FILE, PART_REPLACED};
+use sentences::reasons::{
+    KINDS_DIFFER, LONG_NAME, MANIFEST_NOT_TAKEN, OWN_FILE, OWN_STREAM, PART_REPLACED,
+};
 use std::fs;
 use std::io::{self, BufWriter};
 
@@ -90,7 +92,8 @@ fn inputs_of(
     Ok(all)
 }
 
-/// Opens the target for the manifest, which must not be a file that the manifest is made of.
+/// Opens the target for the manifest. It is neither a file that the manifest is made of, nor a file
+/// that is standard output.
 fn target_of(
     reporter: &Reporter<'_>,
     name: &str,
@@ -98,14 +101,22 @@ fn target_of(
     found: &[NamedFile],
 ) -> Result<Target, Status> {
     let rt = reporter.rt;
-    let inputs = match inputs_of(rt, devices, found) {
+    let mut inputs = match inputs_of(rt, devices, found) {
         Ok(inputs) => inputs,
         Err(e) => return Err(reporter.refused(name.as_bytes(), &e)),
     };
-    if let Ok(there) = fs::metadata(rt, name)
-        && inputs.contains(&Identity::of(&there))
+    if let Ok(there) = fs::metadata(rt, name) {
+        if inputs.contains(&Identity::of(&there)) {
+            return Err(reporter.failed(name.as_bytes(), &OWN_FILE));
+        }
+        if there.is_file() && own_output::is_own(rt, &there) {
+            return Err(reporter.failed(name.as_bytes(), &OWN_STREAM));
+        }
+    }
+    if let Some(output) = own_output::identity(rt)
+        && inputs.push(output).is_err()
     {
-        return Err(reporter.failed(name.as_bytes(), &OWN_FILE));
+        return Err(reporter.say(Ending::Memory));
     }
     match Target::open(rt, name, inputs) {
         Ok(target) => Ok(target),

@@ -152,19 +152,37 @@ fn straight(rt: &HostRuntime, name: &str) -> io::Result<Target> {
     })
 }
 
-/// Returns whether both are to get one name in one directory.
-fn are_for_one_name(rt: &HostRuntime, one: &str, another: &str) -> bool {
-    let directories = (
-        fs::metadata(rt, directory_of(one)),
-        fs::metadata(rt, directory_of(another)),
-    );
-    match directories {
-        (Ok(first), Ok(second)) => {
-            Identity::of(&first) == Identity::of(&second)
-                && name_in_directory(one) == name_in_directory(another)
-        }
-        _ => one == another,
+/// Whether both names are in one directory.
+fn are_in_one_directory(rt: &HostRuntime, one: &str, another: &str) -> bool {
+    let (first, second) = (directory_of(one), directory_of(another));
+    match (fs::metadata(rt, first), fs::metadata(rt, second)) {
+        (Ok(here), Ok(there)) => Identity::of(&here) == Identity::of(&there),
+        _ => first == second,
     }
+}
+
+/// Whether both are to get one name in one directory.
+fn are_for_one_name(rt: &HostRuntime, one: &str, another: &str) -> bool {
+    name_in_directory(one) == name_in_directory(another) && are_in_one_directory(rt, one, another)
+}
+
+/// Whether a name in a directory is one of those of the parts of another name.
+fn is_part_name(name: &[u8], whole: &[u8]) -> bool {
+    let Some(behind) = name.strip_prefix(whole) else {
+        return false;
+    };
+    match behind {
+        [b'.', number @ .., b'.', b'p', b'a', b'r', b't'] => {
+            matches!(number.len(), 1 | 2) && number.iter().all(|byte| byte.is_ascii_digit())
+        }
+        _ => false,
+    }
+}
+
+/// Returns whether the first name is one that a part of the second one may have.
+pub fn is_part_of(rt: &HostRuntime, part: &str, whole: &str) -> bool {
+    let names = (name_in_directory(part), name_in_directory(whole));
+    is_part_name(names.0.as_bytes(), names.1.as_bytes()) && are_in_one_directory(rt, part, whole)
 }
 
 /// Synchronizes a file that is not regular, if that can be done, and closes it.

@@ -33,8 +33,8 @@ pub const SOURCE_UNREAD: &str =
 /// A directory changed.
 pub const FOLDER_CHANGED: &str = "it changed while it was scanned";
 
-/// The image has the name of a file that it is made of.
-pub const OWN_INPUT: &str = "the image would replace its own manifest or source";
+/// The image or the rule has the name of a file that the image is made of.
+pub const OWN_INPUT: &str = "it is the manifest or a source, which a build never replaces";
 
 /// The image has the name of standard output.
 pub const OWN_OUTPUT: &str =
@@ -42,6 +42,9 @@ pub const OWN_OUTPUT: &str =
 
 /// The rule has the name of the image.
 pub const OWN_RULE: &str = "it is also OUT, the file of the image";
+
+/// The rule has the name of a part of the image, or the reverse.
+pub const OWN_PART: &str = "it has the name of a part of OUT, or OUT that of a part of it";
 
 /// A rule has a name that make cannot read.
 pub const RULE_UNFIT: &str = "make cannot read a name in it; PROTOCOL.md lists such names";
@@ -116,8 +119,11 @@ pub const PATTERN_CLASS: &str = "it has a class such as [:alpha:], and patterns 
 /// At one path, a later directory has a directory and an earlier one has not, or the reverse.
 pub const KINDS_DIFFER: &str = "a directory and another kind of file cannot replace each other";
 
-/// The manifest would replace a file that it lists.
-pub const OWN_FILE: &str = "the manifest would replace a file that it lists";
+/// The manifest has the name of a file that it lists, or of the file of devices.
+pub const OWN_FILE: &str = "it is a file that the manifest lists, or the file of --devices";
+
+/// The manifest has the name of standard output.
+pub const OWN_STREAM: &str = "it is the file that standard output is written to";
 
 /// The system refused a part of a manifest.
 pub const MANIFEST_NOT_TAKEN: &str = "not all of the manifest could be written to it";

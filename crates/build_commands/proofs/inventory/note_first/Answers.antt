@@ -5,4 +5,4 @@ use Rattle.build_commands.proofs.inventory.note_first.Goals as goal
 pub returns-in_ok-insert : goal.returns-in_ok-insert
 returns-in_ok-insert c =
     λ device number. noted_more c.args.firsts.now c.insert.new.self c.args.file
-    (search rules) c.in_ok-insert.ensures.updates.0 device number
+    (search rules) (search rules) c.in_ok-insert.ensures.updates.0 device number

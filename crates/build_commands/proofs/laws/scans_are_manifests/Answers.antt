@@ -1,6 +1,5 @@
-use Rattle.std.proofs.Common.{[]}
 use Rattle.build_commands.specs.Inventory.{lines_found}
-use Rattle.build_commands.proofs.Scans.{is_manifest, no_volume}
+use Rattle.build_commands.proofs.Scans.{is_manifest}
 use Rattle.build_commands.proofs.laws.scans_are_manifests.Goals as goal
 
 pub returns-clause-plain : goal.returns-clause-plain
