@@ -64,9 +64,9 @@ romtool_top = with_rule (record
 abbrev pub sub : Text → List Rule → Shape
 sub name rules = shape_with name (rules ++ explain_rule ∷ [])
 
--- its subcommands
-abbrev pub romtool_shapes : List Shape
-romtool_shapes =
+-- the subcommands that read one image or two
+abbrev pub reading_shapes : List Shape
+reading_shapes =
     sub (codes "check") (value_rule (codes "image") ∷ [])
     ∷ sub (codes "list") (value_rule (codes "image") ∷ [])
     ∷ sub (codes "info") (value_rule (codes "image") ∷ option_rule (codes "size") ∷ [])
@@ -82,7 +82,12 @@ romtool_shapes =
     ∷ option_rule (codes "offset") ∷ [])
     ∷ sub (codes "cat") (value_rule (codes "image") ∷ value_rule (codes "path") ∷ [])
     ∷ sub (codes "linux") (value_rule (codes "image") ∷ flag_rule (codes "advice") ∷ [])
-    ∷ sub (codes "serve") (value_rule (codes "image") ∷ [])
+    ∷ []
+
+-- the others
+abbrev pub other_shapes : List Shape
+other_shapes =
+    sub (codes "serve") (value_rule (codes "image") ∷ [])
     ∷ sub (codes "space") (few_rule (codes "image") ∷ [])
     ∷ sub (codes "build") (value_rule (codes "format") ∷ value_rule (codes "manifest")
     ∷ value_rule (codes "out") ∷ flag_rule (codes "no-follow") ∷ flag_rule (codes "strict")
@@ -101,7 +106,7 @@ romtool_shapes =
 
 -- the program
 abbrev pub romtool_app : App
-romtool_app = with_shapes romtool_top romtool_shapes
+romtool_app = with_shapes (with_shapes romtool_top reading_shapes) other_shapes
 
 -- a command of this shape
 abbrev pub IsShaped : Shape → Command → Type 0

@@ -2,10 +2,10 @@
 ghost use Rattle.std.specs.Prelude.{◌≡◌, IfOk, false, map};
 ghost use Rattle.clap.specs.Words.{app_of, rule_of, shape_of};
 ghost use Rattle.command_line.specs.Commands.{IsShaped, flag_rule, romtool_app, romtool_top};
-ghost use Rattle.command_line.specs.Commands.{with_rules, with_shapes};
+ghost use Rattle.command_line.specs.Commands.{other_shapes, with_rules, with_shapes};
 ghost use Rattle.command_line.specs.Table.{rule_named, shape_named};
 
-use crate::table::{EXPLAIN, Kind, SUBCOMMANDS, Subcommand, Word};
+use crate::table::{EXPLAIN, Kind, OTHERS, READING, Subcommand, Word};
 use clap::{Arg, ArgAction, Command};
 use std::alloc::{AllocError, Global};
 
@@ -96,9 +96,16 @@ fn top<'a>(alloc: Global) -> Result<Command<'a>, AllocError>
     command.arg(argument(alloc, EXPLAIN))
 }
 
+/// Adds the subcommands that do not only read images.
+fn with_others<'a>(alloc: Global, command: Command<'a>) -> Result<Command<'a>, AllocError>
+    ensures { IfOk result (λ c. app_of c ≡ with_shapes (app_of command.entry) other_shapes) }
+{
+    with_subcommands(alloc, command, &OTHERS)
+}
+
 /// Returns the program with its subcommands.
 pub fn command<'a>(alloc: Global) -> Result<Command<'a>, AllocError>
     ensures { IfOk result (λ c. app_of c ≡ romtool_app) }
 {
-    with_subcommands(alloc, top(alloc)?, &SUBCOMMANDS)
+    with_others(alloc, with_subcommands(alloc, top(alloc)?, &READING)?)
 }

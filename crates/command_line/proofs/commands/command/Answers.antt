@@ -1,7 +1,7 @@
 use Rattle.std.proofs.Common.{◌≡◌, Result, Ok, Err, IfOk, ap, ◌∙◌, refl, List}
 use Rattle.clap.specs.Words.{App, Shape, app_of}
 use Rattle.clap.specs.declared.builder.command.Command.{Command}
-use Rattle.command_line.specs.Commands.{romtool_shapes, with_shapes}
+use Rattle.command_line.specs.Commands.{other_shapes, reading_shapes, with_shapes}
 use Rattle.command_line.proofs.commands.command.Goals as goal
 
 onto : {E : Type 0} (r : Result Command E) (a b : App) (ss : List Shape) → a ≡ b
@@ -10,4 +10,6 @@ onto (Ok c) a b ss e h = h ∙ ap (λ (x : App). with_shapes x ss) e
 onto (Err _) a b ss e h = tt
 
 pub returns : goal.returns
-returns c = onto _ _ _ romtool_shapes c.in_ok-top.ensures c.with_subcommands.ensures
+returns c = onto _ _ _ other_shapes
+    (c.in_ok-with_subcommands.ensures ∙ ap (λ (x : App). with_shapes x reading_shapes) c.in_ok-top.ensures)
+    c.with_others.ensures
