@@ -3,6 +3,7 @@
 
 ghost use Rattle.std.specs.Prelude.{◌≡◌, ℕ, true, length, take, drop, Option, Some, None, Ok, Err};
 ghost use Rattle.std.specs.Prelude.{MatchResult, MatchOption, option_map, ◌||◌, ◌≤◌};
+ghost use Rattle.std.specs.Io.{ReadsAtMost};
 ghost use Rattle.rom_tree.specs.Tree.{is_directory, is_regular, is_link};
 ghost use Rattle.rom_tree.specs.Image.{stat_of};
 ghost use Rattle.open_files.specs.Calls.{Of, Named, answer, viewed};
@@ -148,6 +149,7 @@ pub(crate) fn read<'a, T: TreeImage<'a>, I: Images<'a, T>, const N: usize>(
         (table_of (I.view images.now) slots.old.slots) fd.0 (length buf.old)
         ≡ answer (viewed (λ n. take n buf.new) result)
         (table_of (I.view images.now) slots.new.slots) }
+    ensures bound { ReadsAtMost result buf.new }
     ensures rest { MatchResult result (λ n. drop n buf.new ≡ drop n buf.old)
         (λ e. buf.new ≡ buf.old) }
     ensures sound { are_sound (I.view images.now) slots.new.slots ≡ true }

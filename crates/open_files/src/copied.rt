@@ -31,6 +31,7 @@ pub(crate) fn copy_bytes<'a, T: TreeImage<'a>>(
         → buf.new
         ≡ bytes_of (T.image image.now).bytes (take (length buf.old) (drop at (places_of x)))
         ++ drop result buf.old }
+    ensures within { result ≤ length buf.new }
     ensures fits { at + result < 2 ^ 64 }
 {
     let bytes = image.bytes();

@@ -1,6 +1,7 @@
 //! The calls on one image with open files.
 ghost use Rattle.std.specs.Prelude.{◌≡◌, ◌≤◌, ℕ, length, take, drop, Option, Some, None, Ok, Err};
 ghost use Rattle.std.specs.Prelude.{MatchResult, MatchOption, option_map};
+ghost use Rattle.std.specs.Io.{ReadsAtMost};
 ghost use Rattle.rom_tree.specs.Tree.{IsShallow};
 ghost use Rattle.open_files.specs.Calls.{Of, Named, answer, viewed};
 ghost use Rattle.open_files.specs.Machine.{no_files};
@@ -122,6 +123,7 @@ impl<'a, T: TreeImage<'a>, const N: usize> Files<'a, T, N> {
     pub fn read(&mut self, fd: Fd, buf: &mut [u8]) -> Result<usize, CallError>
         ensures reply { (calls self.old).read_bytes (table self.old) fd.0 (length buf.old)
             ≡ answer (viewed (λ n. take n buf.new) result) (table self.new) }
+        ensures bound { ReadsAtMost result buf.new }
         ensures rest { MatchResult result (λ n. drop n buf.new ≡ drop n buf.old)
             (λ e. buf.new ≡ buf.old) }
         ensures image { image_in self.new ≡ image_in self.old }

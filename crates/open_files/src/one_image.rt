@@ -2,6 +2,7 @@
 //! generic over the image can make them, for image types of any size.
 ghost use Rattle.std.specs.Prelude.{◌≡◌, ◌≤◌, ℕ, length, take, drop, Option, Some, None, Ok, Err};
 ghost use Rattle.std.specs.Prelude.{MatchResult, MatchOption, option_map};
+ghost use Rattle.std.specs.Io.{ReadsAtMost};
 ghost use Rattle.rom_tree.specs.Tree.{Node, IsShallow};
 ghost use Rattle.open_files.specs.Calls.{Of, Named, answer, give, viewed};
 ghost use Rattle.open_files.specs.Machine.{Table, image_calls};
@@ -146,6 +147,7 @@ pub fn read<'a, T: TreeImage<'a>, const N: usize>(
         (table_in (T.image image.now) slots.old) fd.0 (length buf.old)
         ≡ answer (viewed (λ n. take n buf.new) result)
         (table_in (T.image image.now) slots.new) }
+    ensures bound { ReadsAtMost result buf.new }
     ensures rest { MatchResult result (λ n. drop n buf.new ≡ drop n buf.old)
         (λ e. buf.new ≡ buf.old) }
     ensures sound { AreSound (T.image image.now) slots.new }

@@ -3,6 +3,7 @@
 
 ghost use Rattle.std.specs.Prelude.{◌≡◌, ℕ, length, take, drop, Option, Some, Ok, Err, MatchResult};
 ghost use Rattle.std.specs.Prelude.{MatchOption, option_map};
+ghost use Rattle.std.specs.Io.{ReadsAtMost};
 ghost use Rattle.rom_tree.specs.Tree.{Node};
 ghost use Rattle.rom_tree.specs.Image.{LieIn, stat_of};
 ghost use Rattle.open_files.specs.Calls.{Of, Named, viewed};
@@ -68,6 +69,7 @@ pub fn read<'a, T: TreeImage<'a>>(
         → Moves (image_view (T.image image.now)) o opened.old opened.new
         (read_on (T.image image.now).bytes (length buf.old) o.place o.position)
         (viewed (λ n. take n buf.new) result) }
+    ensures bound { ReadsAtMost result buf.new }
     ensures rest { MatchResult result (λ n. drop n buf.new ≡ drop n buf.old)
         (λ e. buf.new ≡ buf.old) }
 {

@@ -3,6 +3,7 @@
 
 ghost use Rattle.std.specs.Prelude.{◌≡◌, ◌<◌, ◌≤◌, ℕ, length, take, drop, map, Option, Some, None};
 ghost use Rattle.std.specs.Prelude.{Ok, Err, MatchResult, MatchOption, option_map};
+ghost use Rattle.std.specs.Io.{ReadsAtMost};
 ghost use Rattle.path_walk.specs.declared.error.WalkError.{WalkError};
 ghost use Rattle.path_walk.specs.Resolution.{resolution};
 ghost use Rattle.path_walk.specs.Graft.{MountedNode, graft, AreShallow, IsUncovered};
@@ -178,6 +179,7 @@ impl<'a, T: TreeImage<'a>, const N: usize> Space<'a, T, N> {
         requires session { session < 8 }
         ensures reply { (calls self.old session).read_bytes (state self.old) fd.0 (length buf.old)
             ≡ answer (viewed (λ n. take n buf.new) result) (state self.new) }
+        ensures bound { ReadsAtMost result buf.new }
         ensures rest { MatchResult result (λ n. drop n buf.new ≡ drop n buf.old)
             (λ e. buf.new ≡ buf.old) }
         ensures images { images_in self.new ≡ images_in self.old }

@@ -91,7 +91,7 @@ pub(crate) fn read_in(
 {
     match opened::read(image, opened, buffer) {
         Ok(copied) => {
-            *count = copied.min(buffer.len());
+            *count = copied;
             0
         }
         Err(error) => {

@@ -1,5 +1,6 @@
 //! The trait of open files that answer calls: those of one image, or of several.
 ghost use Rattle.std.specs.Prelude.{◌≡◌, ◌<◌, ℕ, length, take};
+ghost use Rattle.std.specs.Io.{ReadsAtMost};
 ghost use Rattle.open_files.specs.Calls.{Calls, answer, give, viewed};
 ghost use Rattle.serve_lines.specs.Commands.{on_path, on_fd, lend, map_part};
 ghost use Rattle.serve_lines.specs.Replies.{reply_text};
@@ -38,6 +39,7 @@ pub(crate) trait OpenCalls<'a>: Drop {
         requires { session < 8 }
         ensures reply { (calls self.old session).read_bytes (state self.old) fd.0 (length buf.old)
             ≡ answer (viewed (λ n. take n buf.new) result) (state self.new) }
+        ensures bound { ReadsAtMost result buf.new }
         ensures stays { calls self.new ≡ calls self.old };
 
     fn lend_reply(&mut self, session: u32, fd: Fd, max: u64) -> Reply<'a>

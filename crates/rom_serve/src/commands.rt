@@ -1,5 +1,5 @@
 //! Commands that are obeyed over open files of any kind.
-ghost use Rattle.std.specs.Prelude.{◌≡◌, ◌<◌, length, take};
+ghost use Rattle.std.specs.Prelude.{◌≡◌, ◌<◌, ◌≤◌, length, take};
 ghost use Rattle.rom_fields.specs.Written.{Puts, sink};
 ghost use Rattle.serve_lines.specs.Commands.{read, quit, line_of};
 ghost use Rattle.serve_lines.specs.Reading.{call_by, is_small};
@@ -47,11 +47,12 @@ fn put_read<'a, C: OpenCalls<'a>, W: ByteWrite>(
     }
 }
 
-/// Returns the first `n` bytes of a buffer, or all of them.
+/// Returns the first `n` bytes of a buffer.
 fn front(buf: &[u8], n: usize) -> &[u8]
+    requires { n ≤ length buf.now }
     ensures { result.now ≡ take n buf.now }
 {
-    &buf[..n.min(buf.len())]
+    &buf[..n]
 }
 
 /// Obeys a command, and puts the reply.
