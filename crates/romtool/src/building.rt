@@ -18,8 +18,10 @@ use crate::target::{FillError, Target};
 use crate::{bad_lines, depfile, explained, own_output, reading, warned};
 use build_commands::{print_bad_manifest, print_built, print_misfit, print_size, print_strict};
 use command_line::Build;
+use file_sources::FileSources;
 use image_build::StreamError;
 use image_file::{PlanImage, Unwritten};
+use image_stream::Sources;
 use layout_plan::{PlanError, plan};
 use manifest::{Manifest, ManifestError, parse};
 use plan_types::{Format, Plan};
@@ -294,15 +296,16 @@ fn buffer_of(rt: &HostRuntime, len: usize) -> Option<Vec<u8>>
 }
 
 /// Returns the files as the sources of an image. Their reading is shown as progress.
-fn disk_of<'a>(rt: &'a HostRuntime, plan: &Plan, files: Files<'a>) -> Disk<'a>
-    ensures { result.names.now ≡ files.entry.names.now }
+fn disk_of<'a>(rt: &'a HostRuntime, plan: &Plan, files: Files<'a>) -> FileSources<'a, Disk<'a>>
+    ensures { ⟦<FileSources<'a, Disk<'a>> as Sources>⟧.files result
+        ≡ length files.entry.names.now }
 {
     let bytes = plan
         .sizes()
         .iter()
         .fold(0, |sum: u64, size| sum.saturating_add(*size));
     let progress = Progress::new(rt, bytes.saturating_mul(passes(plan.format())));
-    Disk::new(rt, files.names, files.stamps, progress)
+    FileSources::new(Disk::new(rt, progress), files.names, files.stamps)
 }
 
 /// Prints why a target did not get its name.
@@ -347,10 +350,11 @@ fn put_image(
     let filled = target.fill(rt, &mut image);
     let PlanImage {
         plan: _,
-        sources: mut disk,
+        sources,
         last: _,
         buffer: _,
     } = image;
+    let (mut disk, unread) = sources.into_parts();
     disk.end();
     match filled {
         Ok(()) => Ok(()),
@@ -359,7 +363,7 @@ fn put_image(
             reporter, file,
         )),
         Err(FillError::NotWritten(Unwritten::Stream(e), reason)) => {
-            Err(files.say_unwritten(reporter, e, (disk.reason(), reason), out))
+            Err(files.say_unwritten(reporter, e, (unread, reason), out))
         }
     }
 }
