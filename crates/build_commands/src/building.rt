@@ -1,68 +1,45 @@
 //! Prints the line of a build, and flushes it.
 ghost use Rattle.std.specs.Prelude.{◌≡◌, OnOk, decimal};
 ghost use Rattle.build_commands.specs.Printed.{built_line, manifest_line, misfit_line};
-ghost use Rattle.build_commands.specs.Printed.{refusal_line};
-ghost use Rattle.build_commands.specs.Printed.{size_line, strict_line};
+ghost use Rattle.build_commands.specs.Printed.{refusal_line, size_line, strict_line};
 ghost use Rattle.rom_fields.specs.Failures.{Counts, one_more};
-ghost use Rattle.rom_fields.specs.Written.{Puts, WritesText, sink};
+ghost use Rattle.rom_fields.specs.Written.{WritesText};
 
 use crate::warnings::warning_name;
-use rom_fields::{ByteWrite, Failed, put, put_decimal, put_long_decimal};
+use lines::Part::{Number, Text};
+use lines::print_line;
+use rom_fields::{ByteWrite, Failed};
 
-/// Writes the line of a built image.
-fn write_built_line<W: ByteWrite>(w: &mut W, len: u64) -> Result<(), Failed>
-    ensures text { WritesText (W.output w.old).contents (W.output w.new).contents result
-        (built_line len) }
-    ensures count { Counts (W.output w.old).failures (W.output w.new).failures result }
-    ensures unflushed { (W.output w.new).flushes ≡ (W.output w.old).flushes }
-{
-    let mut failed = false;
-    put(w, &mut failed, b"ok ");
-    put_long_decimal(w, &mut failed, len);
-    put(w, &mut failed, b"\n");
-    if failed { Err(Failed) } else { Ok(()) }
-}
-
-/// Writes the line of a refusal: who refused, the line, and the refusal's number and name.
-fn write_refusal_line<W: ByteWrite>(
+/// Writes the line of a refusal, and flushes it: who refused, the line, and the refusal's number
+/// and name.
+#[tactic(auto, unfolding(lines::specs::Lines::line_text, lines::specs::Lines::part_text, crate::specs::Printed::refusal_line))]
+fn print_refusal<'x, W: ByteWrite>(
     w: &mut W,
-    who: &[u8],
+    who: &'x [u8],
     line: u64,
     number: u32,
-    name: &[u8],
-) -> Result<(), Failed>
-    ensures text { WritesText (W.output w.old).contents (W.output w.new).contents result
-        (refusal_line who.now line number name.now) }
-    ensures count { Counts (W.output w.old).failures (W.output w.new).failures result }
-    ensures unflushed { (W.output w.new).flushes ≡ (W.output w.old).flushes }
-{
-    let mut failed = false;
-    put(w, &mut failed, who);
-    put(w, &mut failed, b" ");
-    put_long_decimal(w, &mut failed, line);
-    put(w, &mut failed, b" ");
-    put_decimal(w, &mut failed, number);
-    put(w, &mut failed, b" ");
-    put(w, &mut failed, name);
-    put(w, &mut failed, b"\n");
-    if failed { Err(Failed) } else { Ok(()) }
-}
-
-/// Writes the line of a refusal, and flushes it.
-fn print_refusal<W: ByteWrite>(
-    w: &mut W,
-    who: &[u8],
-    line: u64,
-    number: u32,
-    name: &[u8],
+    name: &'x [u8],
 ) -> Result<(), Failed>
     ensures text { WritesText (W.output w.old).contents (W.output w.new).contents result
         (refusal_line who.now line number name.now) }
     ensures count { Counts (W.output w.old).failures (W.output w.new).failures result }
     ensures flushed { OnOk result ((W.output w.new).flushes ≡ one_more (W.output w.old).flushes) }
 {
-    write_refusal_line(w, who, line, number, name)?;
-    w.flush()
+    let (line, number) = (Number(line), Number(u64::from(number)));
+    let (space, end) = (Text(b" "), Text(b"\n"));
+    print_line(
+        w,
+        &[
+            Text(who),
+            space,
+            line,
+            space,
+            number,
+            space,
+            Text(name),
+            end,
+        ],
+    )
 }
 
 /// Writes `ok LENGTH` for an image of this number of bytes, and flushes it.
@@ -70,14 +47,14 @@ fn print_refusal<W: ByteWrite>(
 /// # Errors
 ///
 /// `Failed` if a write or the flush failed. Then a prefix of the line was written.
+#[tactic(auto, unfolding(lines::specs::Lines::line_text, lines::specs::Lines::part_text, crate::specs::Printed::built_line))]
 pub fn print_built<W: ByteWrite>(w: &mut W, len: u64) -> Result<(), Failed>
     ensures text { WritesText (W.output w.old).contents (W.output w.new).contents result
         (built_line len) }
     ensures count { Counts (W.output w.old).failures (W.output w.new).failures result }
     ensures flushed { OnOk result ((W.output w.new).flushes ≡ one_more (W.output w.old).flushes) }
 {
-    write_built_line(w, len)?;
-    w.flush()
+    print_line(w, &[Text(b"ok "), Number(len), Text(b"\n")])
 }
 
 /// Writes `manifest LINE NUMBER NAME` for an invalid manifest, and flushes it: its first faulty
@@ -112,36 +89,29 @@ pub fn print_misfit<W: ByteWrite>(w: &mut W, line: u64, number: u32) -> Result<(
     print_refusal(w, b"plan", line, number, name.as_bytes())
 }
 
-/// Writes the line of an image that would be too long.
-fn write_size_line<W: ByteWrite>(w: &mut W, len: u64, most: u64) -> Result<(), Failed>
-    ensures text { WritesText (W.output w.old).contents (W.output w.new).contents result
-        (size_line len most) }
-    ensures count { Counts (W.output w.old).failures (W.output w.new).failures result }
-    ensures unflushed { (W.output w.new).flushes ≡ (W.output w.old).flushes }
-{
-    let mut failed = false;
-    put(w, &mut failed, b"size ");
-    put_long_decimal(w, &mut failed, len);
-    put(w, &mut failed, b" ");
-    put_long_decimal(w, &mut failed, most);
-    put(w, &mut failed, b"\n");
-    if failed { Err(Failed) } else { Ok(()) }
-}
-
 /// Writes `size LENGTH MOST` for an image that would have LENGTH bytes and may have MOST, and
 /// flushes it.
 ///
 /// # Errors
 ///
 /// `Failed` if a write or the flush failed. Then a prefix of the line was written.
+#[tactic(auto, unfolding(lines::specs::Lines::line_text, lines::specs::Lines::part_text, crate::specs::Printed::size_line))]
 pub fn print_size<W: ByteWrite>(w: &mut W, len: u64, most: u64) -> Result<(), Failed>
     ensures text { WritesText (W.output w.old).contents (W.output w.new).contents result
         (size_line len most) }
     ensures count { Counts (W.output w.old).failures (W.output w.new).failures result }
     ensures flushed { OnOk result ((W.output w.new).flushes ≡ one_more (W.output w.old).flushes) }
 {
-    write_size_line(w, len, most)?;
-    w.flush()
+    print_line(
+        w,
+        &[
+            Text(b"size "),
+            Number(len),
+            Text(b" "),
+            Number(most),
+            Text(b"\n"),
+        ],
+    )
 }
 
 /// Writes `strict LINE NUMBER NAME` for a build that refuses what it would otherwise only warn of,
