@@ -1,0 +1,38 @@
+-- `AreInPlace`: Linux maps the pages of the files of an image to the flash itself, if the manifest
+-- gives them an ALIGN of whole pages. (This project's own. Linux's rule is
+-- `cramfs_mapping.specs.Physmem`.)
+use Rattle.std.specs.Prelude.{◌≡◌, ◌≢◌, ℕ, ◌%◌, true, List, ◌∷◌, ◌++◌, length, reverse, Some}
+use Rattle.record_forest.specs.Members.{Has}
+use Rattle.rom_tree.specs.Tree.{Node, is_regular, places_of, row_from}
+use Rattle.cramfs_format.specs.declared.order.Order.{Order}
+use Rattle.manifest.specs.declared.line.Line.{Line}
+use Rattle.manifest.specs.Lines.{ManifestLines, filed}
+use Rattle.manifest.specs.Paths.{names_of}
+use Rattle.manifest_tree.specs.Shape.{node_under}
+use Rattle.cramfs_mapping.specs.Physmem.{Flash}
+use Rattle.cramfs_mapping.specs.InPlace.{IsInPlace}
+
+-- the image is at the front of the flash, which has an address and begins with a page
+pub record HoldsImage (f : Flash) (bytes : List ℕ) : Type 0 where
+  pub rest : List ℕ
+  pub front : f.bytes ≡ bytes ++ rest
+  pub some : f.address ≢ 0
+  pub aligned : f.address % 4096 ≡ 0
+
+-- the file's bytes are in one run, which begins with a page; and each page of each mapping that
+-- cannot be written is mapped at its place, except a shared last one
+pub record IsFileInPlace (o : Order) (f : Flash) (x : Node) : Type 0 where
+  pub start : ℕ
+  pub aligned : start % 4096 ≡ 0
+  pub run : places_of x ≡ row_from start (length (places_of x))
+  pub mapped : IsInPlace o f x start
+
+-- A line l of the manifest leads to a regular file, as `file`, `same` and `hard` lines do, and g is
+-- the `file` line whose contents that file has. If the ALIGN of g is a multiple of 4,096, the file
+-- is in place.
+abbrev pub AreInPlace : Order → Flash → Node → ManifestLines → Type 0
+AreInPlace o f t m =
+    (l g : Line) (n : List ℕ) (ns : List (List ℕ)) (x : Node) → Has (λ k. k ≡ l) m.lines
+    → filed (reverse m.lines) l.path ≡ Some g → g.align % 4096 ≡ 0
+    → names_of l.path ≡ Some (n ∷ ns) → node_under (n ∷ ns) t ≡ Some x → is_regular x ≡ true
+    → IsFileInPlace o f x

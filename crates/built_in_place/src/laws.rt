@@ -1,0 +1,43 @@
+//! What Linux maps of the files of a built image.
+ghost use Rattle.std.specs.Prelude.{◌≡◌, ◌<◌, ◌^◌, ℕ, List, Ok, Option, length};
+ghost use Rattle.built_in_place.specs.Files.{AreInPlace, HoldsImage};
+ghost use Rattle.cramfs_format.specs.declared.order.Order.{Order};
+ghost use Rattle.cramfs_mapping.specs.Physmem.{Flash};
+ghost use Rattle.formats.specs.Format.{cramfs};
+ghost use Rattle.image_build.specs.Accepted.{usual};
+ghost use Rattle.image_build.specs.Builds.{Builds};
+ghost use Rattle.image_build.specs.Streamed.{IsPlanOfText, form_in, image_with, stored_in};
+ghost use Rattle.image_check.specs.Checked.{HasTree};
+ghost use Rattle.image_stream.specs.Outcomes.{IsWritten};
+ghost use Rattle.manifest.specs.Grammar.{manifest_of};
+ghost use Rattle.manifest.specs.Lines.{ManifestLines};
+ghost use Rattle.plan_types.specs.Plans.{Planned};
+ghost use Rattle.rom_tree.specs.Tree.{Node};
+
+/// Shows that each file of a built cramfs image, whose ALIGN is a multiple of 4,096, is mapped in
+/// place by Linux, if the image is at the front of flash whose address is such a multiple, too.
+pub fn built_is_in_place()
+    ensures { (o : Order) (text : List ℕ) (contents : List (List ℕ)) (bytes : List ℕ)
+        (m : ManifestLines) (t : Node) (f : Flash) → Builds (cramfs o) text contents (Ok bytes)
+        → manifest_of text ≡ Ok m → HasTree bytes usual t → HoldsImage f bytes
+        → AreInPlace o f t m }
+{
+    image_build::laws::built_is_placed();
+    image_check::laws::one_tree();
+    manifest_layout::laws::layout_is_meant();
+    cramfs_mapping::laws::aligned_is_in_place();
+}
+
+/// Shows the same for an image that was streamed, whatever the sources are.
+pub fn streamed_is_in_place()
+    ensures { (o : Order) (text : List ℕ) (p : Planned) (known : Option (List (List ℕ)))
+        (old new : Option (List ℕ)) (t : Node) (f : Flash) → (is : IsPlanOfText text p)
+        → p.format ≡ cramfs o
+        → (w : IsWritten known (form_in p.format p) (stored_in p.format) old new)
+        → length (image_with p w.rest) < 2 ^ 32 → HasTree (image_with p w.rest) usual t
+        → HoldsImage f (image_with p w.rest) → AreInPlace o f t is.lines }
+{
+    image_build::laws::streamed_is_placed();
+    image_check::laws::one_tree();
+    cramfs_mapping::laws::aligned_is_in_place();
+}

@@ -1,0 +1,5 @@
+pub mod Fronts
+pub mod Mapped
+pub mod Regular
+pub mod Files
+pub mod Zeros

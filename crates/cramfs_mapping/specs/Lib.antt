@@ -1,0 +1,2 @@
+pub mod Physmem
+pub mod InPlace

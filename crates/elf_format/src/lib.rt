@@ -1,0 +1,20 @@
+//! The program headers of an ELF file, and the pages of the file that Linux maps for them.
+//!
+//! Proved: each field is that of the System V gABI (`specs/Header.antt`), in files of 32 and 64
+//! bits and in either byte order. Whatever the bytes are, nothing outside them is read. The pages
+//! are those of Linux's loader (`specs/Loading.antt`).
+#![tactic(auto)]
+
+mod error;
+mod header;
+mod loading;
+mod numbers;
+mod program;
+#[cfg(test)]
+mod tests;
+
+pub use error::ElfError;
+pub use header::Header;
+pub use loading::Loading;
+pub use numbers::{Class, Order};
+pub use program::Program;

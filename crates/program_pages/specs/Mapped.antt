@@ -1,0 +1,22 @@
+-- `mapped_sum`: the pages that Linux maps to the flash for the program headers of a file. (Linux 6.1
+-- fs/binfmt_elf.c and fs/cramfs/inode.c: `elf_format.specs.Loading`, `cramfs_mapping.specs.Physmem`.)
+use Rattle.std.specs.Prelude.{ℕ, zero, suc, ◌+◌, List}
+use Rattle.cramfs_format.specs.declared.order.Order.{Order}
+use Rattle.cramfs_mapping.specs.Physmem.{Flash, mapped_pages}
+use Rattle.elf_format.specs.declared.header.Header.{Header}
+use Rattle.elf_format.specs.declared.loading.Loading.{Loading}
+use Rattle.elf_format.specs.declared.loading.Loading.TheVariants.{Nothing, Refused, Pages}
+use Rattle.program_pages.specs.Counted.{loading_at}
+
+-- those of one program header of the file whose inode is at p
+abbrev pub mapped_of : Order → Flash → ℕ → Loading → ℕ
+mapped_of o f p Nothing = 0
+mapped_of o f p Refused = 0
+mapped_of o f p (Pages first count writable) =
+    mapped_pages o f p (record { first = first; count = count; writable = writable })
+
+-- those of the first n program headers; the file has `size` bytes, which are b
+abbrev pub mapped_sum : Order → Flash → ℕ → ℕ → List ℕ → Header → ℕ → ℕ
+mapped_sum o f p size b h zero = 0
+mapped_sum o f p size b h (suc n) =
+    mapped_sum o f p size b h n + mapped_of o f p (loading_at b size h n)
