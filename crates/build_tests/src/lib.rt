@@ -19,9 +19,9 @@ mod known;
 #[cfg(test)]
 mod layouts;
 #[cfg(test)]
-mod lines;
-#[cfg(test)]
 mod made;
+#[cfg(test)]
+mod manifest_lines;
 #[cfg(test)]
 mod romfs_written;
 #[cfg(test)]
