@@ -13,7 +13,8 @@ use Rattle.elf_format.specs.declared.loading.Loading.{Loading}
 use Rattle.elf_format.specs.declared.loading.Loading.TheVariants.{Nothing, Refused, Pages}
 use Rattle.program_pages.specs.declared.counting.ProgramPages.{ProgramPages}
 use Rattle.program_pages.specs.declared.counting.NoProgram.{NoProgram}
-use Rattle.program_pages.specs.declared.counting.NoProgram.TheVariants.{NotElf, BadTable, Unloadable}
+use Rattle.program_pages.specs.declared.counting.NoProgram.TheVariants.{NotElf, BadTable}
+use Rattle.program_pages.specs.declared.counting.NoProgram.TheVariants.{Unloadable}
 
 -- the pages of a file of `size` bytes from `start` on that are mapped in place, of those that are
 -- loaded; and the others of them
@@ -27,7 +28,8 @@ abbrev pub copied_of : Flash → ℕ → ℕ → Loading → ℕ
 copied_of f start size Nothing = 0
 copied_of f start size Refused = 0
 copied_of f start size (Pages first count writable) =
-    count - pages_in_place f start size (record { first = first; count = count; writable = writable })
+    let mapping = record { first = first; count = count; writable = writable } in
+    count - pages_in_place f start size mapping
 
 -- what the i-th program header of the file b loads
 abbrev pub loading_at : List ℕ → ℕ → Header → ℕ → Loading
