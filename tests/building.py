@@ -341,21 +341,21 @@ def rules_named_like_parts(binary):
     """FILE is refused if it has the name of a part of OUT, or the reverse. Neither is removed as a part of the other."""
     put("m", b"file /a 0644 0 0 4 a\n")
     put("a", b"x")
-    for whole, part in (("x", "x.0.part"), ("./x", "x.99.part")):
+    for whole, part in (("x", ".x.romtool-0.part"), ("./x", ".x.romtool-99.part")):
         for rule, out in ((whole, part), (part, whole)):
             for old in (False, True):
                 if old:
                     put("x", b"old")
-                    put("x.0.part", b"old part")
+                    put(".x.romtool-0.part", b"old part")
                 yield from refused(binary, (b"", b"file %s\n" % rule.encode(), 3), "--depfile", rule, "romfs", "m", out)
                 remove("x")
-                remove("x.0.part")
-    put("x.0.part", b"old part")
-    os.symlink("x.0.part", "link")
+                remove(".x.romtool-0.part")
+    put(".x.romtool-0.part", b"old part")
+    os.symlink(".x.romtool-0.part", "link")
     done = run(binary, "build", "--depfile", "link", "romfs", "m", "x")
-    if answer(done) != (b"ok 1024\n", b"", 0) or bytes_in("x.0.part") != b"x: \\\n  m \\\n  a\n" or not os.path.islink("link"):
+    if answer(done) != (b"ok 1024\n", b"", 0) or bytes_in(".x.romtool-0.part") != b"x: \\\n  m \\\n  a\n" or not os.path.islink("link"):
         yield "a link to a part: %r" % (answer(done),)
-    for name in ("x.100.part", "x.part", "x.a.part", "x.0.parts", "d/x.0.part"):
+    for name in ("x.0.part", ".x.romtool-100.part", ".x.romtool-.part", ".x.romtool-a.part", ".x.romtool-0.parts", "d/.x.romtool-0.part"):
         os.makedirs("d", exist_ok=True)
         done = run(binary, "build", "--depfile", name, "romfs", "m", "x")
         if answer(done) != (b"ok 1024\n", b"", 0):

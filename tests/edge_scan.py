@@ -625,7 +625,7 @@ def manifest_over_its_output(binary):
     """`-o` does not replace the file of standard output, nor remove it as an old part. A pipe is written."""
     os.mkdir("in")
     put("in/a", b"a")
-    for name, of in (("/dev/stdout", "kept"), ("kept", "kept"), ("m", "m.0.part")):
+    for name, of in (("/dev/stdout", "kept"), ("kept", "kept"), ("m", ".m.romtool-0.part")):
         put(of, b"kept")
         with open(of, "ab") as output:
             done = run(binary, "scan", "--all", "-o", name, "in", stdout=output)

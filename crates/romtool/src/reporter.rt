@@ -5,12 +5,13 @@ ghost use Rattle.rom_commands.specs.Endings.{status_of};
 
 use crate::arguments::NoWords;
 use crate::origin::Origin;
+use crate::reading::Unread;
 use command_line::{WordsError, is_explain};
 use program_streams::Held;
 use rom_commands::{Ending, Status, report};
 use rom_faults::Fault;
 use rom_fields::Plain;
-use sentences::reasons::NO_WORD;
+use sentences::reasons::{NO_WORD, SOURCE_CHANGED};
 use sentences::words::escaped;
 use sentences::{call_sentence, ending_sentence, fault_sentence, image};
 use std::alloc::AllocError;
@@ -195,6 +196,16 @@ impl<'a> Reporter<'a> {
             return self.say(Ending::Memory);
         }
         self.failed_by(name, e)
+    }
+
+    /// Reports why a file was not read: it changed, or the system refused it.
+    pub fn unread(&self, name: &[u8], why: &Unread) -> Status
+        ensures { result ≡ Status.Failed }
+    {
+        match why {
+            Unread::Changed => self.changed(name, &SOURCE_CHANGED),
+            Unread::Refused(e) => self.refused(name, e),
+        }
     }
 
     /// Reports that a file could not be written, and the operating system's reason.

@@ -4,6 +4,7 @@ ghost use Rattle.atomic_file.specs.Accounts.{log_of, room_of};
 
 use crate::beside::{Beside, KeepError, NAMES, Others, System, Writer, is_of_its_kind};
 use crate::closing::close;
+use crate::parts::is_part_name;
 use crate::place::{behind_links, directory_of, name_in_directory};
 use crate::stamp::Identity;
 use atomic_file::{Begun, Fill, Unbegun, Unfinished, abandon, begin, keep};
@@ -166,23 +167,9 @@ fn are_for_one_name(rt: &HostRuntime, one: &str, another: &str) -> bool {
     name_in_directory(one) == name_in_directory(another) && are_in_one_directory(rt, one, another)
 }
 
-/// Whether a name in a directory is one of those of the parts of another name.
-fn is_part_name(name: &[u8], whole: &[u8]) -> bool {
-    let Some(behind) = name.strip_prefix(whole) else {
-        return false;
-    };
-    match behind {
-        [b'.', number @ .., b'.', b'p', b'a', b'r', b't'] => {
-            matches!(number.len(), 1 | 2) && number.iter().all(|byte| byte.is_ascii_digit())
-        }
-        _ => false,
-    }
-}
-
 /// Returns whether the first name is one that a part of the second one may have.
 pub fn is_part_of(rt: &HostRuntime, part: &str, whole: &str) -> bool {
-    let names = (name_in_directory(part), name_in_directory(whole));
-    is_part_name(names.0.as_bytes(), names.1.as_bytes()) && are_in_one_directory(rt, part, whole)
+    is_part_name(part, whole) && are_in_one_directory(rt, part, whole)
 }
 
 /// Synchronizes a file that is not regular, if that can be done, and closes it.

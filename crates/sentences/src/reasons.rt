@@ -15,7 +15,7 @@ pub const TOO_MANY_LINKS: &str = "more than 40 symbolic links follow one another
 
 /// No name is left for the part of a build.
 pub const HUNDRED_PARTS: &str =
-    "a hundred parts of builds, .0.part to .99.part, are beside it; remove old ones";
+    "a hundred parts, .NAME.romtool-0.part and so on, are beside it; remove old ones";
 
 /// A directory holds a file of a kind that no manifest has.
 pub const NO_KIND: &str = "it is of a kind that no manifest has";
@@ -84,6 +84,14 @@ pub const NOT_EMPTY: &str = "it is not empty";
 /// A directory that is to be filled belongs to another user, who could change it meanwhile.
 pub const OF_ANOTHER_USER: &str =
     "it is owned by another user, who could change what is made in it";
+
+/// Other users may replace what is made in the directory.
+pub const OPEN_TO_OTHERS: &str =
+    "other users may write in it, and could replace what is made in it";
+
+/// Another user made the link to the directory, or may replace it.
+pub const LINK_OF_ANOTHER: &str =
+    "it is a link that another user made or may replace: name the directory itself";
 
 /// The directory that was being filled is incomplete.
 pub const INCOMPLETE: &str = "it is incomplete; the files that were made in it are still there";
