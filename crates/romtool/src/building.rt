@@ -113,6 +113,15 @@ struct Files<'a> {
     stamps: &'a [Stamp],
 }
 
+impl<'a> Files<'a> {
+    /// The name by which the manifest is looked at again, and the state that it has to keep.
+    fn manifest_state(&self) -> (&'a str, Option<Stamp>) {
+        let name: &'a str = self.origin.name;
+        let name = if name == INPUT { reading::INPUT } else { name };
+        (name, self.manifest.stamp)
+    }
+}
+
 impl Files<'_> {
     /// Reports that a source changed.
     fn say_changed(&self, reporter: &Reporter<'_>, file: usize) -> Status {
@@ -127,13 +136,6 @@ impl Files<'_> {
             Late::Manifest => reporter.changed(self.origin.name.as_bytes(), &SOURCE_CHANGED),
             Late::Source(file) => self.say_changed(reporter, file),
         }
-    }
-
-    /// The name by which the manifest is looked at again, and the state that it has to keep.
-    fn manifest_state(&self) -> (&'_ str, Option<Stamp>) {
-        let name = self.origin.name;
-        let name = if name == INPUT { reading::INPUT } else { name };
-        (name, self.manifest.stamp)
     }
 
     /// Reports that a source could not be read as it was: it changed, or the system refused it, for
