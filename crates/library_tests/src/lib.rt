@@ -33,6 +33,8 @@ mod mounted;
 #[cfg(test)]
 mod opener;
 #[cfg(test)]
+mod replaced;
+#[cfg(test)]
 mod sample;
 #[cfg(test)]
 mod spoiled;
