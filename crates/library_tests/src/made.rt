@@ -2,9 +2,7 @@
 ghost use Rattle.std.specs.Prelude.{◌≡◌, IfOk};
 ghost use Rattle.formats.specs.Format.{format_of};
 
-use image_build::{
-    BuildError, Contents, Format, Plan, build_cramfs, build_cramfs_big, build_romfs, plan,
-};
+use image_build::{Contents, Format, Plan, build_cramfs, build_cramfs_big, build_romfs, plan};
 use manifest::parse;
 use std::alloc::Global;
 use std::test::Fail;
@@ -35,16 +33,16 @@ pub fn planned(alloc: Global, text: &[u8], sizes: &[u64], format: Format) -> Res
     }
 }
 
-/// The image of a manifest with these contents.
+/// The image of a manifest with these contents, if it fits.
 pub fn built(
     alloc: Global,
     text: &[u8],
     contents: &Contents<'_>,
     format: Format,
-) -> Result<Vec<u8>, BuildError> {
+) -> Option<Vec<u8>> {
     match format {
-        Format::Romfs => build_romfs(alloc, text, contents),
-        Format::Cramfs => build_cramfs(alloc, text, contents),
-        Format::CramfsBig => build_cramfs_big(alloc, text, contents),
+        Format::Romfs => build_romfs(alloc, text, contents).ok(),
+        Format::Cramfs => build_cramfs(alloc, text, contents).ok(),
+        Format::CramfsBig => build_cramfs_big(alloc, text, contents).ok(),
     }
 }

@@ -51,6 +51,9 @@ impl Opener for Troubled {
 /// How many bytes are read of a file at an offset, and a buffer of three bytes then.
 fn read<S: Sources>(sources: &mut S, file: usize, at: u64) -> (Option<usize>, [u8; 3]) {
     let mut buf = [0u8; 3];
+    if file >= sources.count() {
+        return (None, buf);
+    }
     let count = sources.read_at(file, at, &mut buf).ok();
     (count, buf)
 }

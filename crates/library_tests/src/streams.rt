@@ -2,7 +2,7 @@
 //! in memory.
 use crate::made::{FORMATS, built, contents_of, planned};
 use crate::spoiled::{Fault, Spoiled};
-use image_build::{Contents, Format, Plan, Slices, Sources, StreamError, stream};
+use image_build::{Contents, Format, Plan, Sources, StreamError, stream};
 use rom_fields::{ByteWrite, Faulty, Plain};
 use std::alloc::Global;
 use std::test::Fail;
@@ -26,43 +26,28 @@ const FITTING: [Fitting; 2] = [
 /// How a stream ended, or nothing if the number of sources is not the plan's.
 type Ended = Option<Result<(), StreamError>>;
 
-/// Streams a plan from sources, one for each of its own.
-fn streamed<S: Sources, W: ByteWrite>(plan: &Plan, sources: &mut S, w: &mut W) -> Ended {
-    if sources.count() == plan.sizes().len() {
-        Some(stream(plan, sources, w))
-    } else {
-        None
-    }
-}
-
-/// Streams a plan from memory.
-fn from_memory<W: ByteWrite>(plan: &Plan, contents: &Contents<'_>, w: &mut W) -> Ended {
-    streamed(plan, &mut Slices::new(contents), w)
-}
-
 /// Streams a plan from sources with a fault after this number of reads.
-fn from_spoiled<W: ByteWrite>(
+fn streamed<W: ByteWrite>(
     plan: &Plan,
     contents: &Contents<'_>,
     fault: Fault,
     sound: u64,
     w: &mut W,
 ) -> Ended {
-    streamed(plan, &mut Spoiled::new(contents, fault, sound), w)
+    let mut sources = Spoiled::new(contents, fault, sound);
+    if sources.count() == plan.sizes().len() {
+        Some(stream(plan, &mut sources, w))
+    } else {
+        None
+    }
 }
 
-/// Streams a plan from memory to a writer that accepts this number of calls, each with at most
-/// `most` bytes: what the writer then holds, and how it ended.
-fn sent(
-    alloc: Global,
-    plan: &Plan,
-    all: &[&[u8]],
-    calls: u64,
-    most: usize,
-) -> Result<(Vec<u8>, Ended), Fail> {
+/// Streams a plan to a writer that accepts this number of calls, each with at most 100 bytes: what
+/// the writer then holds, and how it ended.
+fn sent(alloc: Global, plan: &Plan, all: &[&[u8]], calls: u64) -> Result<(Vec<u8>, Ended), Fail> {
     let contents = contents_of(alloc, all)?;
-    let mut w = Faulty::new(Plain::new(Vec::new(alloc)), calls, most);
-    let ended = from_memory(plan, &contents, &mut w);
+    let mut w = Faulty::new(Plain::new(Vec::new(alloc)), calls, 100);
+    let ended = streamed(plan, &contents, Fault::Unreadable, u64::MAX, &mut w);
     Ok((w.into_inner().into_inner(), ended))
 }
 
@@ -77,17 +62,15 @@ fn spoiled(
 ) -> Result<(Vec<u8>, Ended), Fail> {
     let contents = contents_of(alloc, all)?;
     let mut w = Plain::new(Vec::new(alloc));
-    let ended = from_spoiled(plan, &contents, fault, sound, &mut w);
+    let ended = streamed(plan, &contents, fault, sound, &mut w);
     Ok((w.into_inner(), ended))
 }
 
 /// The image of a manifest with these contents.
 fn image_of(alloc: Global, text: &[u8], all: &[&[u8]], format: Format) -> Result<Vec<u8>, Fail> {
     let contents = contents_of(alloc, all)?;
-    match built(alloc, text, &contents, format) {
-        Ok(image) => Ok(image),
-        Err(_) => Err(Fail::new("a manifest that fits")),
-    }
+    let image = built(alloc, text, &contents, format).ok_or("a manifest that fits")?;
+    Ok(image)
 }
 
 /// Whether a stream to a writer that accepts this number of calls is whole. If it is not, it ends
@@ -99,7 +82,7 @@ fn is_whole_in(
     all: &[&[u8]],
     calls: u64,
 ) -> Result<bool, Fail> {
-    let (held, ended) = sent(alloc, plan, all, calls, 100)?;
+    let (held, ended) = sent(alloc, plan, all, calls)?;
     match ended {
         Some(Ok(())) if held.as_slice() == image && calls > 0 => Ok(true),
         Some(Err(StreamError::WriteFault)) if image.starts_with(&held) => Ok(false),
@@ -201,7 +184,7 @@ fn contents_are_read_as_far_as_they_count(rt: HostRuntime) -> Result<(), Fail> {
             ended_after(rt.alloc(), FITTING[1], format, Fault::Unreadable, reads)?,
             ended_after(rt.alloc(), FITTING[1], format, Fault::Unreadable, reads - 1)?,
         );
-        assert_eq!(rt; all, Some(Ok(())), "after {reads}");
+        assert!(rt; all == Some(Ok(())));
         assert!(rt; matches!(&one_less, Some(Err(StreamError::SourceFault { file: _ }))));
     }
     Ok(())
@@ -214,7 +197,7 @@ fn contents_that_change_are_printed(rt: HostRuntime) -> Result<(), Fail> {
         // two reads for the size, one for the checksum, and one for the bytes
         for (sound, want) in [(0, whole), (1, whole), (2, whole), (3, changed), (4, whole)] {
             let ended = ended_after(rt.alloc(), FITTING[0], format, Fault::Changed, sound)?;
-            assert_eq!(rt; ended, want, "after {sound}");
+            assert!(rt; ended == want);
         }
     }
     Ok(())

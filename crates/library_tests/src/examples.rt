@@ -3,10 +3,7 @@
 //!
 //! Proved: the conditions of each call are met by the contracts of the calls before it. For
 //! example, `check` promises that a tree has at most 65 levels, which is the condition of `list`,
-//! `walk`, `Files::new` and `serve`. No crate depends on this one.
-#![tactic(auto)]
-
-#[cfg(test)]
+//! `walk`, `Files::new` and `serve`.
 mod built;
 mod cached;
 mod checked;
