@@ -1,11 +1,10 @@
 //! Readers and writers that fail in the middle, of servers and of what the program prints.
 use crate::checked::sound;
 use crate::images::HELLO;
-use rom_commands::{Asked, Ending, hello, print, show};
+use rom_commands::{Asked, Ending, hello, show};
 use rom_fields::{Faulty, Plain, put};
 use rom_serve::{ServeError, serve, serve_bounded, serve_space};
 use std::alloc::Global;
-use std::io::{self, ErrorKind, Write};
 
 /// Two lines of nine and eleven bytes.
 const LINES: &[u8] = b"lookup /\nlookup /..\n";
@@ -127,33 +126,4 @@ fn a_failed_write_ends_a_list(rt: HostRuntime) {
         let front = &LISTED[..calls];
         assert!(rt; is_listed(rt.alloc(), calls as u64, Ending::WriteFault, front));
     }
-}
-
-/// A writer that accepts all bytes, and fails each flush.
-#[derive(Drop)]
-struct Unflushed;
-
-impl Write for Unflushed {
-    fn write(&mut self, buf: &[u8]) -> io::Result<usize> {
-        Ok(buf.len())
-    }
-
-    fn flush(&mut self) -> io::Result<()> {
-        Err(ErrorKind::BrokenPipe.into())
-    }
-}
-
-/// How a report to a writer whose flush fails ends, and the text on standard error.
-fn report_unflushed(alloc: Global) -> (Ending<'static>, Vec<u8>) {
-    let mut out = Plain::new(Unflushed);
-    let mut err = Plain::new(Vec::new(alloc));
-    let ending = print(alloc, &hello(), Asked::Report, &mut out, &mut err);
-    (ending, err.into_inner())
-}
-
-#[test]
-fn a_failed_flush_is_a_write_fault(rt: HostRuntime) {
-    let (ending, said) = report_unflushed(rt.alloc());
-    assert!(rt; ending == Ending::WriteFault);
-    assert!(rt; said.as_slice() == b"write fault\n".as_slice());
 }

@@ -1,5 +1,6 @@
 //! The layers in front of a program's streams, over a stream that is interrupted and fails.
 use program_streams::{Again, Ahead, Held, Remembering, read_at_again, read_until};
+use rom_fields::{ByteWrite, Plain};
 use std::io::{self, BufRead, ErrorKind, Read, Write};
 
 /// A stream that accepts or returns two bytes with each call. A signal interrupts its first call,
@@ -32,6 +33,7 @@ impl<X: Write> Write for Troubled<X> {
     }
 
     fn flush(&mut self) -> io::Result<()> {
+        self.call()?;
         self.inner.flush()
     }
 }
@@ -113,4 +115,11 @@ fn part_is_read_from_its_position(rt: HostRuntime) {
     let mut buf = [0u8; 3];
     assert!(rt; read_at_again(&b"hello".as_slice(), 4, &mut buf).ok() == Some(1));
     assert!(rt; buf == *b"o\0\0");
+}
+
+#[test]
+fn a_failed_flush_is_counted(rt: HostRuntime) {
+    let mut w = Plain::new(Troubled::new(Vec::new(rt.alloc())));
+    assert!(rt; w.flush().is_err());
+    assert!(rt; w.failures() == 1);
 }
