@@ -10,8 +10,6 @@ mod header;
 mod loading;
 mod numbers;
 mod program;
-#[cfg(test)]
-mod tests;
 
 pub use error::ElfError;
 pub use header::Header;
