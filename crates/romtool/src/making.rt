@@ -256,7 +256,7 @@ impl Top {
     }
 }
 
-/// The bits of a mode that the process's mask removes from new files in the current directory, which
+/// The bits of a mode that the process's mask removes from new files in the current directory. It
 /// has to belong to the user of the process. An empty file shows both, and is removed again.
 fn masked_in(rt: &HostRuntime, directory: &File) -> io::Result<u32> {
     let probe = OpenOptions::new()

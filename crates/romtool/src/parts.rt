@@ -1,5 +1,5 @@
-//! Parts of builds: their names, their mark and their lock. A build marks its part and locks it. So a
-//! file with the name and the mark of a part and without a lock was left by an interrupted build.
+//! Parts of builds: their names, their mark and their lock. A build marks its part and locks it. So
+//! a file with the name and the mark of a part and without a lock was left by an interrupted build.
 use crate::place::name_in_directory;
 use crate::stamp::Identity;
 use std::alloc::AllocError;

@@ -1,5 +1,5 @@
-//! Reads files into memory: images up to the size that they state, and manifests. A regular file that
-//! changes meanwhile is not read.
+//! Reads files into memory: images up to the size that they state, and manifests. A regular file
+//! that changes meanwhile is not read.
 use crate::stamp::{Identity, Stamp, let_rest};
 use image_check::reach_of;
 use image_load::{Found, load};
@@ -120,8 +120,8 @@ pub fn manifest_of_input(rt: &HostRuntime) -> Result<Text, Unread> {
 ///
 /// # Errors
 ///
-/// The operating system's error; `FileTooLarge` if the file has more than 2^30 bytes; `Changed` if a
-/// regular file changed while it was read.
+/// The operating system's error; `FileTooLarge` if the file has more than 2^30 bytes; `Changed` if
+/// a regular file changed while it was read.
 pub fn manifest(rt: &HostRuntime, name: &str) -> Result<Text, Unread> {
     let mut file = File::open(rt, name)?;
     let was = file.metadata()?;
