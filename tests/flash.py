@@ -105,7 +105,7 @@ def make_root(top):
 
 def make_images(binary, top, counts):
     """Packs the root once for each partition, and returns whether that succeeded."""
-    told = run(binary, "scan", "--all", "--all-root", "--for", "cramfs", "root", cwd=top).stdout.decode()
+    told = run(binary, "scan", "--all", "--all-root", "--for", "cramfs", "--align", "4096", "root", cwd=top).stdout.decode()
     for name, align in PARTS.items():
         lines = re.sub(r"^(file \S+ 0\d+ \d+ \d+) 4096 ", rf"\g<1> {align} ", told, flags=re.M)
         put(f"{top}/{name}.manifest", lines.encode())

@@ -141,13 +141,26 @@ impl<'a> Reporter<'a> {
     /// that of the file in an image that the command was about. A fault is not explained here.
     pub fn finish<X: Write + Drop>(&self, err: Plain<Held<X>>, ending: Ending<'_>, path: &[u8]) {
         let mut held = err.into_inner();
-        let is_left = is_left(ending);
+        let (is_left, reason) = (is_left(ending), last_error());
         let _ = held.flush();
         if let Some(sentence) = sentence_of(ending)
             && !is_left
         {
-            self.explain(place_of(ending, path), &sentence);
+            let place = place_of(ending, path);
+            if ending == Ending::WriteFault
+                && let Ok(words) = self.with_reason(sentence, &reason)
+            {
+                self.explain(place, &words);
+            } else {
+                self.explain(place, &sentence);
+            }
         }
+    }
+
+    /// A sentence, followed by the operating system's words for an error.
+    fn with_reason(&self, sentence: &str, e: &io::Error) -> Result<String, AllocError> {
+        let words = self.words_of(e)?;
+        format!(in self.rt.alloc(); "{sentence}: {words}")
     }
 
     /// Does the same for a command on the image in the file of this name, and explains the image's
