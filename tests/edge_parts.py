@@ -20,7 +20,9 @@ import rooms
 import traced
 from edge import held_up, hello, leave, part, parts, wanted
 from files import bytes_in, put, wait_until
+from harness import missing
 from romtool import answer, run
+from rooms import needs_root
 from traced import needs_strace
 
 
@@ -191,9 +193,39 @@ def reads_that_end_early(binary):
                 break
 
 
+@needs_root
+def device_that_is_mounted(binary):
+    """A block device with a mounted file system is refused as OUT, and is written after it was unmounted."""
+    hello()
+    put("disk", bytes(1 << 20))
+    if missing("losetup", "mkfs.ext2", "mount", "umount") or subprocess.run(["mkfs.ext2", "-q", "-F", "disk"]).returncode:
+        yield None
+        return
+    looped = subprocess.run(["losetup", "--find", "--show", "disk"], stdout=subprocess.PIPE, stderr=subprocess.DEVNULL, text=True)
+    if looped.returncode:
+        yield None
+        return
+    device = looped.stdout.strip()
+    try:
+        os.mkdir("at")
+        if subprocess.run(["mount", device, "at"], stderr=subprocess.DEVNULL).returncode:
+            yield None
+            return
+        done = run(binary, "--explain", "build", "romfs", "m", device)
+        words = "file %s\nromtool: %s: a file system on this device is mounted: unmount it first\n" % (device, device)
+        if answer(done) != (b"", words.encode(), 3) or not os.path.isdir("at/lost+found"):
+            yield "mounted: %r" % (answer(done),)
+        subprocess.run(["umount", "at"], check=True)
+        done = run(binary, "build", "romfs", "m", device)
+        if answer(done) != (b"ok 1024\n", b"", 0) or bytes_in("disk")[:1024] != wanted(binary):
+            yield "unmounted: %r" % (answer(done),)
+    finally:
+        subprocess.run(["losetup", "--detach", device], check=True)
+
+
 TESTS = [
     part_of_another_file, parts_that_are_held, parts_that_are_left, inputs_with_the_names_of_parts, part_of_a_killed_build,
-    manifests_that_change, reads_that_end_early,
+    manifests_that_change, reads_that_end_early, device_that_is_mounted,
 ]  # fmt: skip
 
 

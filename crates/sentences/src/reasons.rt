@@ -93,6 +93,9 @@ pub const OPEN_TO_OTHERS: &str =
 pub const LINK_OF_ANOTHER: &str =
     "it is a link that another user made or may replace: name the directory itself";
 
+/// A file system on the block device is mounted.
+pub const MOUNTED: &str = "a file system on this device is mounted: unmount it first";
+
 /// The directory that was being filled is incomplete.
 pub const INCOMPLETE: &str = "it is incomplete; the files that were made in it are still there";
 
