@@ -30,7 +30,8 @@ use program_streams::Held;
 use rom_commands::{Ending, Status};
 use rom_fields::{Failed, Plain};
 use sentences::reasons::{
-    NOT_TAKEN, OWN_INPUT, OWN_OUTPUT, PART_REPLACED, SOURCE_CHANGED, SOURCE_UNREAD, SUM_DIFFERS,
+    NOT_TAKEN, OWN_ERROR, OWN_INPUT, OWN_OUTPUT, PART_REPLACED, SOURCE_CHANGED, SOURCE_UNREAD,
+    SUM_DIFFERS,
 };
 use std::{fs, io};
 
@@ -199,8 +200,10 @@ impl Inputs<'_> {
     /// Which files these are, standard output, and the file of this name, which is written, too.
     fn identities(&self, rt: &HostRuntime, written: Option<&str>) -> io::Result<Vec<Identity>> {
         let mut all = Vec::new(rt.alloc());
-        if let Some(output) = own_output::identity(rt) {
-            all.push(output)?;
+        for stream in [own_output::identity(rt), own_output::error_identity(rt)] {
+            if let Some(stream) = stream {
+                all.push(stream)?;
+            }
         }
         if let Some(name) = written
             && let Ok(found) = fs::metadata(rt, name)
@@ -226,6 +229,9 @@ fn check_output(reporter: &Reporter<'_>, name: &str, inputs: Inputs<'_>) -> Resu
         }
         if own_output::is_own(reporter.rt, &found) {
             return Err(reporter.failed(name.as_bytes(), &OWN_OUTPUT));
+        }
+        if own_output::is_own_error(reporter.rt, &found) {
+            return Err(reporter.failed(name.as_bytes(), &OWN_ERROR));
         }
     }
     Ok(())

@@ -136,6 +136,9 @@ pub const OWN_FILE: &str = "it is a file that the manifest lists, or the file of
 /// The manifest has the name of standard output.
 pub const OWN_STREAM: &str = "it is the file that standard output is written to";
 
+/// The file of a result is standard error.
+pub const OWN_ERROR: &str = "it is the file that standard error is written to";
+
 /// The system refused a part of a manifest.
 pub const MANIFEST_NOT_TAKEN: &str = "not all of the manifest could be written to it";
 
