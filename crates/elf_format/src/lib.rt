@@ -14,7 +14,7 @@ mod program;
 mod tests;
 
 pub use error::ElfError;
-pub use header::Header;
+pub use header::{Header, elf_kind};
 pub use loading::Loading;
 pub use numbers::{Class, Order};
 pub use program::Program;
