@@ -1,0 +1,82 @@
+-- `found_in`: whether a node is a program or a library, and whether Linux executes it in place.
+-- (This project's own. The pages are those of `program_pages.specs.Counted`. Linux 6.1: with an MMU
+-- fs/cramfs/inode.c, `cramfs_physmem_mmap`, and fs/romfs/super.c, which has no mmap of its own;
+-- without one `cramfs_physmem_get_unmapped_area` and fs/romfs/mmap-nommu.c.)
+use Rattle.std.specs.Prelude.{ℕ, suc, ◌+◌, ◌/◌, ◌%◌, ◌==◌, ◌||◌, Bool, true, false}
+use Rattle.std.specs.Prelude.{if◌then◌else◌, List, [], ◌∷◌, length, Option, Some, None}
+use Rattle.std.specs.Prelude.{Result, Ok, Err}
+use Rattle.rom_fields.specs.Words.{part_of}
+use Rattle.rom_tree.specs.Tree.{Node, is_regular, places_of}
+use Rattle.image_check.specs.declared.any.AnyImage.{AnyImage}
+use Rattle.image_check.specs.declared.any.AnyImage.TheVariants as any
+use Rattle.image_check.specs.Any.{any_view}
+use Rattle.elf_format.specs.Header.{kind_in}
+use Rattle.program_pages.specs.Counted.{flash_at, pages_of}
+use Rattle.program_pages.specs.declared.counting.ProgramPages.{ProgramPages}
+use Rattle.program_pages.specs.declared.counting.NoProgram.{NoProgram}
+use Rattle.program_pages.specs.declared.counting.NoProgram.TheVariants as no
+use Rattle.program_report.specs.declared.question.Question.{Question}
+use Rattle.program_report.specs.declared.finding.Found.{Found}
+use Rattle.program_report.specs.declared.finding.Reason.TheVariants.{Unaligned, Scattered}
+use Rattle.program_report.specs.declared.finding.Reason.TheVariants.{Unloadable, Table, Romfs}
+use Rattle.program_report.specs.declared.finding.Verdict.{Verdict}
+use Rattle.program_report.specs.declared.finding.Verdict.TheVariants.{InPlace, Not}
+
+-- a type of ELF files: ET_EXEC or ET_DYN
+abbrev pub is_program : Option ℕ → Bool
+is_program None = false
+is_program (Some kind) = (kind == 2) || (kind == 3)
+
+abbrev pub is_romfs : AnyImage → Bool
+is_romfs (any.Romfs s) = true
+is_romfs (any.Cramfs s) = false
+
+-- the verdict on a program with these pages, from `start` on. Without an MMU all its pages that
+-- cannot be written are in place. If it has none of them, none could be. With an MMU Linux maps
+-- nothing of romfs, and of cramfs what begins with a page of the flash.
+abbrev pub placed : Bool → Question → ℕ → ProgramPages → Verdict
+placed romfs q start p =
+    if q.no_mmu || (p.fixed == 0) then InPlace p
+    else (if romfs then Not Romfs (p.in_place + p.copied)
+    else (if (q.base + start) % 4096 == 0 then InPlace p
+    else Not Unaligned (p.in_place + p.copied)))
+
+-- the same, or Linux does not execute the program
+abbrev pub judged : Bool → Question → ℕ → Result ProgramPages NoProgram → Verdict
+judged romfs q start (Ok p) = placed romfs q start p
+judged romfs q start (Err no.Unloadable) = Not Unloadable 0
+judged romfs q start (Err no.NotElf) = Not Table 0
+judged romfs q start (Err no.BadTable) = Not Table 0
+
+abbrev pub page_count : ℕ → ℕ
+page_count size = (size + 4095) / 4096
+
+-- how many offsets at the front follow one another, from p on
+abbrev pub row_len : ℕ → List ℕ → ℕ
+row_len p [] = 0
+row_len p (q ∷ qs) = if q == p then suc (row_len (suc p) qs) else 0
+
+abbrev pub found : ℕ → ℕ → Verdict → Found
+found start size v = record { start = start; size = size; verdict = v }
+
+-- the verdict on a program of `size` bytes, of which `len` are in one run from `start` on. A file in
+-- several runs is taken for one that is copied as a whole.
+abbrev pub verdict_in : AnyImage → Question → ℕ → ℕ → ℕ → Verdict
+verdict_in a q start len size =
+    if len == size then judged (is_romfs a) q start
+    (pages_of (flash_at (any_view a).bytes q.base) q.no_mmu start size)
+    else Not Scattered (page_count size)
+
+-- what is found of such a file, whose type is read in that run
+unfoldable pub found_at : AnyImage → Question → ℕ → ℕ → ℕ → Option Found
+found_at a q start len size =
+    if is_program (kind_in (part_of (any_view a).bytes start len))
+    then Some (found start size (verdict_in a q start len size)) else None
+
+abbrev pub found_on : AnyImage → Question → List ℕ → Option Found
+found_on a q [] = None
+found_on a q (p ∷ ps) = found_at a q p (row_len p (p ∷ ps)) (length (p ∷ ps))
+
+-- what is found of a node; only a regular file is a program
+abbrev pub found_in : AnyImage → Question → Node → Option Found
+found_in a q x = if is_regular x then found_on a q (places_of x) else None
