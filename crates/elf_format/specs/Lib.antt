@@ -1,2 +1,3 @@
 pub mod Header
 pub mod Loading
+pub mod Dynamic

@@ -2,7 +2,7 @@
 -- (This project's own. The pages are those of `program_pages.specs.Counted`. Linux 6.1: with an MMU
 -- fs/cramfs/inode.c, `cramfs_physmem_mmap`, and fs/romfs/super.c, which has no mmap of its own;
 -- without one `cramfs_physmem_get_unmapped_area` and fs/romfs/mmap-nommu.c.)
-use Rattle.std.specs.Prelude.{ℕ, suc, ◌+◌, ◌/◌, ◌%◌, ◌==◌, ◌||◌, Bool, true, false}
+use Rattle.std.specs.Prelude.{ℕ, suc, ◌+◌, ◌/◌, ◌%◌, ◌^◌, ◌<◌, ◌==◌, ◌||◌, Bool, true, false}
 use Rattle.std.specs.Prelude.{if◌then◌else◌, List, [], ◌∷◌, length, Option, Some, None}
 use Rattle.std.specs.Prelude.{Result, Ok, Err}
 use Rattle.rom_fields.specs.Words.{part_of}
@@ -10,6 +10,7 @@ use Rattle.rom_tree.specs.Tree.{Node, is_regular, places_of}
 use Rattle.image_check.specs.declared.any.AnyImage.{AnyImage}
 use Rattle.image_check.specs.declared.any.AnyImage.TheVariants as any
 use Rattle.image_check.specs.Any.{any_view}
+use Rattle.elf_format.specs.Dynamic.{file_moves_text}
 use Rattle.elf_format.specs.Header.{kind_in}
 use Rattle.program_pages.specs.Counted.{flash_at, pages_of}
 use Rattle.program_pages.specs.declared.counting.ProgramPages.{ProgramPages}
@@ -19,6 +20,7 @@ use Rattle.program_report.specs.declared.question.Question.{Question}
 use Rattle.program_report.specs.declared.finding.Found.{Found}
 use Rattle.program_report.specs.declared.finding.Reason.TheVariants.{Unaligned, Scattered}
 use Rattle.program_report.specs.declared.finding.Reason.TheVariants.{Unloadable, Table, Romfs}
+use Rattle.program_report.specs.declared.finding.Reason.TheVariants.{TextRelocations}
 use Rattle.program_report.specs.declared.finding.Verdict.{Verdict}
 use Rattle.program_report.specs.declared.finding.Verdict.TheVariants.{InPlace, Not}
 
@@ -41,6 +43,11 @@ placed romfs q start p =
     else (if (q.base + start) % 4096 == 0 then InPlace p
     else Not Unaligned (p.in_place + p.copied)))
 
+-- the pages of a program that is in place are few
+abbrev pub IsSmall : Verdict → Type 0
+IsSmall (InPlace p) = p.in_place + p.copied < 2 ^ 64
+IsSmall (Not reason pages) = Unit {0}
+
 -- the same, or Linux does not execute the program
 abbrev pub judged : Bool → Question → ℕ → Result ProgramPages NoProgram → Verdict
 judged romfs q start (Ok p) = placed romfs q start p
@@ -59,12 +66,20 @@ row_len p (q ∷ qs) = if q == p then suc (row_len (suc p) qs) else 0
 abbrev pub found : ℕ → ℕ → Verdict → Found
 found start size v = record { start = start; size = size; verdict = v }
 
+-- the verdict, if the dynamic linker writes into the text or does not: then the text is copied
+abbrev pub unless_moved : Bool → Verdict → Verdict
+unless_moved moved (Not reason pages) = Not reason pages
+unless_moved moved (InPlace p) =
+    if moved then (if p.fixed == 0 then InPlace p else Not TextRelocations (p.in_place + p.copied))
+    else InPlace p
+
 -- the verdict on a program of `size` bytes, of which `len` are in one run from `start` on. A file in
 -- several runs is taken for one that is copied as a whole.
 abbrev pub verdict_in : AnyImage → Question → ℕ → ℕ → ℕ → Verdict
 verdict_in a q start len size =
-    if len == size then judged (is_romfs a) q start
-    (pages_of (flash_at (any_view a).bytes q.base) q.no_mmu start size)
+    if len == size then unless_moved (file_moves_text (part_of (any_view a).bytes start size))
+    (judged (is_romfs a) q start
+    (pages_of (flash_at (any_view a).bytes q.base) q.no_mmu start size))
     else Not Scattered (page_count size)
 
 -- what is found of such a file, whose type is read in that run

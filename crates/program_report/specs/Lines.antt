@@ -14,6 +14,7 @@ use Rattle.program_report.specs.declared.finding.Found.{Found}
 use Rattle.program_report.specs.declared.finding.Reason.{Reason}
 use Rattle.program_report.specs.declared.finding.Reason.TheVariants.{Unaligned, Scattered}
 use Rattle.program_report.specs.declared.finding.Reason.TheVariants.{Unloadable, Table, Romfs}
+use Rattle.program_report.specs.declared.finding.Reason.TheVariants.{TextRelocations}
 use Rattle.program_report.specs.declared.finding.Verdict.{Verdict}
 use Rattle.program_report.specs.declared.finding.Verdict.TheVariants.{InPlace, Not}
 use Rattle.program_report.specs.declared.tally.Tally.{Tally}
@@ -25,6 +26,7 @@ reason_word Scattered = codes "scattered"
 reason_word Unloadable = codes "unloadable"
 reason_word Table = codes "table"
 reason_word Romfs = codes "romfs"
+reason_word TextRelocations = codes "textrel"
 
 -- a word, a path, an address and numbers, with spaces between them, and a line feed
 abbrev pub spaced : List (List ℕ) → List ℕ

@@ -5,11 +5,12 @@ ghost use Rattle.rom_tree.specs.Tree.{Node};
 ghost use Rattle.rom_tree.specs.Image.{image_node, HasNode};
 ghost use Rattle.image_check.specs.Any.{any_view};
 ghost use Rattle.program_report.specs.Found.{found_at, found_in, is_program, is_romfs, judged};
-ghost use Rattle.program_report.specs.Found.{page_count, placed, verdict_in};
+ghost use Rattle.program_report.specs.Found.{IsSmall, page_count, placed, unless_moved};
+ghost use Rattle.program_report.specs.Found.{verdict_in};
 ghost use Rattle.program_report.specs.Lines.{is_shared};
 
 use crate::question::Question;
-use elf_format::elf_kind;
+use elf_format::{elf_kind, moves_text};
 use image_check::AnyImage;
 use program_pages::{NoProgram, ProgramPages, program_pages};
 use rom_fields::part;
@@ -28,6 +29,8 @@ pub enum Reason {
     Table,
     /// Linux with an MMU maps no page of romfs.
     Romfs,
+    /// The dynamic linker writes into its text.
+    TextRelocations,
 }
 
 /// Whether a program is executed in place.
@@ -78,7 +81,8 @@ fn is_romfs(image: &AnyImage<'_>) -> bool
 /// Returns the verdict on a program with these pages, from `start` on.
 fn placed(is_romfs: bool, question: &Question, start: u32, pages: ProgramPages) -> Verdict
     requires { pages.in_place + pages.copied < 2 ^ 64 }
-    ensures { result ≡ placed is_romfs question.now start pages }
+    ensures is { result ≡ placed is_romfs question.now start pages }
+    ensures small { IsSmall result }
 {
     if question.no_mmu || pages.fixed == 0 {
         return Verdict::InPlace(pages);
@@ -107,7 +111,8 @@ fn judged(
     pages: Result<ProgramPages, NoProgram>,
 ) -> Verdict
     requires { IfOk pages (λ p. p.in_place + p.copied < 2 ^ 64) }
-    ensures { result ≡ judged is_romfs question.now start pages }
+    ensures is { result ≡ judged is_romfs question.now start pages }
+    ensures small { IsSmall result }
 {
     match pages {
         Ok(pages) => placed(is_romfs, question, start, pages),
@@ -119,6 +124,20 @@ fn judged(
             reason: Reason::Table,
             pages: 0,
         },
+    }
+}
+
+/// Returns the verdict, if the dynamic linker writes into the text or does not.
+fn unless_moved(moved: bool, verdict: Verdict) -> Verdict
+    requires { IsSmall verdict }
+    ensures { result ≡ unless_moved moved verdict }
+{
+    match verdict {
+        Verdict::InPlace(pages) if moved && pages.fixed > 0 => Verdict::Not {
+            reason: Reason::TextRelocations,
+            pages: pages.in_place + pages.copied,
+        },
+        _ => verdict,
     }
 }
 
@@ -155,7 +174,11 @@ fn verdict_in(image: &AnyImage<'_>, question: &Question, start: u32, len: u64, s
     }
     let (bytes, base, no_mmu) = (image.bytes(), question.base, question.no_mmu);
     let pages = program_pages(bytes, base, no_mmu, start as usize, size as usize);
-    judged(is_romfs(image), question, start, pages)
+    let verdict = judged(is_romfs(image), question, start, pages);
+    unless_moved(
+        moves_text(bytes_in(bytes, start as usize, size as usize)),
+        verdict,
+    )
 }
 
 /// Returns what is found of a file of `size` bytes, of which the first `len` are from `start` on

@@ -66,6 +66,7 @@ fn reason_word(reason: Reason) -> &'static [u8]
         Reason::Unloadable => b"unloadable",
         Reason::Table => b"table",
         Reason::Romfs => b"romfs",
+        Reason::TextRelocations => b"textrel",
     }
 }
 
