@@ -172,7 +172,10 @@ has_programs b c o =
 abbrev pub header_by : List ℕ → Option (Class × Order) → Result Header ElfError
 header_by b None = Err NotElf
 header_by b (Some p) = if has_programs b p.0 p.1 then Ok (record {
-  class = p.0; order = p.1; kind = type_of p.1 b; table = table_of p.0 p.1 b;
+  class = p.0;
+  order = p.1;
+  kind = type_of p.1 b;
+  table = table_of p.0 p.1 b;
   count = count_of p.0 p.1 b;
 }) else Err Table
 

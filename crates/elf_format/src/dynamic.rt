@@ -50,7 +50,13 @@ impl Program {
         }
         let there = self.file_size.min(len - self.offset);
         let entry = 2 * class.address_size() as u64;
-        has_text_tag(class, order, b, (there / entry) as usize, self.offset as usize)
+        has_text_tag(
+            class,
+            order,
+            b,
+            (there / entry) as usize,
+            self.offset as usize,
+        )
     }
 }
 

@@ -10,6 +10,7 @@ mod dynamic;
 mod error;
 mod header;
 mod loading;
+mod mapped;
 mod numbers;
 mod program;
 #[cfg(test)]
@@ -19,5 +20,6 @@ pub use dynamic::moves_text;
 pub use error::ElfError;
 pub use header::{Header, elf_kind};
 pub use loading::Loading;
+pub use mapped::has_fixed;
 pub use numbers::{Class, Order};
 pub use program::Program;

@@ -40,8 +40,10 @@ impl Program {
         if self.kind != 1 {
             return 0;
         }
-        pages_to(self.address, self.memory_size)
-            .saturating_sub(pages_to(self.address, self.file_size))
+        pages_to(self.address, self.memory_size).saturating_sub(pages_to(
+            self.address,
+            self.file_size,
+        ))
     }
 
     /// Returns what Linux maps for the program header, from a file of this many bytes.

@@ -6,7 +6,7 @@ ghost use Rattle.rom_tree.specs.Image.{image_node, HasNode};
 ghost use Rattle.image_check.specs.Any.{any_view};
 ghost use Rattle.program_report.specs.Found.{found_at, found_in, is_program, is_romfs, judged};
 ghost use Rattle.program_report.specs.Found.{IsSmall, page_count, placed, unless_moved};
-ghost use Rattle.program_report.specs.Found.{verdict_in};
+ghost use Rattle.program_report.specs.Found.{verdict_at, verdict_in};
 ghost use Rattle.program_report.specs.Lines.{is_shared};
 
 use crate::question::Question;
@@ -147,6 +147,27 @@ pub(crate) fn page_count(size: u32) -> u64
     ensures few { result ≤ 2 ^ 20 }
 {
     (u64::from(size) + 4_095) / 4_096
+}
+
+/// Returns the verdict on a program whose file has these bytes, if it begins at an address of the
+/// flash, or `None` if they are no program. The machine has an MMU. Of what follows the file nothing
+/// is known, so a last page that is not full counts as copied.
+#[tactic(auto, unfolding(crate::specs::Found::verdict_at))]
+pub fn verdict_at(is_romfs: bool, address: u64, b: &[u8]) -> Option<Verdict>
+    requires { length b.now < 2 ^ 48 }
+    ensures { result ≡ verdict_at is_romfs address b.now }
+{
+    if !is_program(elf_kind(b)) {
+        return None;
+    }
+    let question = Question {
+        base: address,
+        no_mmu: false,
+        advice: false,
+    };
+    let pages = program_pages(b, address, false, 0, b.len());
+    let verdict = judged(is_romfs, &question, 0, pages);
+    Some(unless_moved(moves_text(b), verdict))
 }
 
 /// Returns the `len` bytes from `start` on.

@@ -12,7 +12,7 @@ mod question;
 mod report;
 mod tally;
 
-pub use finding::{Found, Reason, Verdict};
+pub use finding::{Found, Reason, Verdict, verdict_at};
 pub use question::Question;
 pub use report::write_programs;
 pub use tally::Tally;

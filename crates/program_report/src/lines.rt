@@ -56,17 +56,19 @@ fn put_head<'a, W: ByteWrite>(
     put_address(w, failed, address);
 }
 
-/// Returns the word of a reason.
-fn reason_word(reason: Reason) -> &'static [u8]
-    ensures { result.now ≡ reason_word reason }
-{
-    match reason {
-        Reason::Unaligned => b"unaligned",
-        Reason::Scattered => b"scattered",
-        Reason::Unloadable => b"unloadable",
-        Reason::Table => b"table",
-        Reason::Romfs => b"romfs",
-        Reason::TextRelocations => b"textrel",
+impl Reason {
+    /// Returns the word of a reason.
+    pub fn word(self) -> &'static [u8]
+        ensures { result.now ≡ reason_word self }
+    {
+        match self {
+            Reason::Unaligned => b"unaligned",
+            Reason::Scattered => b"scattered",
+            Reason::Unloadable => b"unloadable",
+            Reason::Table => b"table",
+            Reason::Romfs => b"romfs",
+            Reason::TextRelocations => b"textrel",
+        }
     }
 }
 
@@ -102,7 +104,7 @@ fn put_not<'a, W: ByteWrite>(
 {
     put_head(w, failed, b"not ", walk, address);
     put(w, failed, b" ");
-    put(w, failed, reason_word(reason));
+    put(w, failed, reason.word());
     put_number(w, failed, pages);
     put(w, failed, b"\n");
 }

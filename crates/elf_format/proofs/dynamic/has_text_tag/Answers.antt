@@ -18,7 +18,7 @@ loop-left-preserved c =
       within = (
           let w = entries_on k left at (length b) (omega arith) i.within in
           rw e w
-        );
+          );
       same =
           ap (λ (n : ℕ). has_text_tag k o b (left - 1) (at + 2 * n)) e
           ∙ (goes_on k o b at left c.address-tag.result c.address.result (omega arith) c.address-tag.ensures

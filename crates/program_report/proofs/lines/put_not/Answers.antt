@@ -7,5 +7,5 @@ pub returns : goal.returns
 returns g c =
     let P : List ℕ → Type 0 = λ v. Puts (sink (g.W.ByteWrite.output c.put.new.w) c.put.new.failed)
     (sink (g.W.ByteWrite.output c.put-2.new.w) c.put-2.new.failed) v in
-    chain c.put_head.ensures (chain c.put.ensures (chain (subst P c.reason_word.ensures c.put-2.ensures)
+    chain c.put_head.ensures (chain c.put.ensures (chain (subst P c.word.ensures c.put-2.ensures)
     (chain c.put_number.ensures c.put-3.ensures)))
