@@ -1,5 +1,5 @@
 -- The lines of a manifest of a directory as it is. (This project's own.)
-use Rattle.std.specs.Prelude.{ℕ, ◌==◌, ◌&&◌, ◌||◌, Bool, true, false, if◌then◌else◌}
+use Rattle.std.specs.Prelude.{ℕ, ◌==◌, ◌&&◌, Bool, true, false, if◌then◌else◌}
 use Rattle.std.specs.Prelude.{List, [], ◌∷◌, ◌++◌}
 use Rattle.std.specs.Prelude.{drop, find, Option, Some, None, string_bytes}
 use Rattle.manifest.specs.declared.line.Line.{Line}

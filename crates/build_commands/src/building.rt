@@ -137,11 +137,11 @@ pub fn print_strict<W: ByteWrite>(w: &mut W, line: u64, number: u32) -> Result<(
 ///
 /// `Failed` if a write or the flush failed. Then a prefix of the line was written.
 #[tactic(auto, unfolding(lines::specs::Lines::line_text, lines::specs::Lines::part_text, crate::specs::Printed::xip_line))]
-pub fn print_xip<W: ByteWrite>(
+pub fn print_xip<'x, W: ByteWrite>(
     w: &mut W,
     line: u64,
-    reason: &[u8],
-    path: &[u8],
+    reason: &'x [u8],
+    path: &'x [u8],
 ) -> Result<(), Failed>
     ensures text { WritesText (W.output w.old).contents (W.output w.new).contents result
         (xip_line line reason.now path.now) }
