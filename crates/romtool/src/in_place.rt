@@ -70,7 +70,7 @@ fn elf_at(rt: &HostRuntime, name: &str, stamp: &Stamp) -> io::Result<Option<Vec<
 }
 
 /// Why a program would not be executed in place, if its contents begin at an offset of the image.
-fn unplaced(is_romfs: bool, place: u32, bytes: &[u8]) -> Option<Reason> {
+fn reason_at(is_romfs: bool, place: u32, bytes: &[u8]) -> Option<Reason> {
     if bytes.len() as u64 > MOST {
         return None;
     }
@@ -104,7 +104,7 @@ pub fn first_unplaced<'m>(
             return Ok(None);
         };
         let reason = match elf_at(rt, name, stamp) {
-            Ok(Some(bytes)) => unplaced(is_romfs, *place, &bytes),
+            Ok(Some(bytes)) => reason_at(is_romfs, *place, &bytes),
             Ok(None) => None,
             Err(e) => return Err(Unknown::Source(file, e)),
         };
