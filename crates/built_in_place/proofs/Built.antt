@@ -15,7 +15,9 @@ use Rattle.image_build.specs.Builds.{Builds}
 use Rattle.cramfs_mapping.specs.Physmem.{Flash}
 use Rattle.cramfs_mapping.specs.InPlace.{IsInPlace}
 use Rattle.built_in_place.specs.Files.{HoldsImage, AreInPlace}
+use Rattle.built_in_place.proofs.Regular.{regular_at}
 use Rattle.built_in_place.proofs.Under.{in_under}
+use Rattle.manifest_tree.specs.Meant.{IsMeant}
 
 -- what the lower laws say
 abbrev pub MapsAligned : Type 0
@@ -50,13 +52,16 @@ on_page k align h =
     omega arith
 
 pub in_place : MapsAligned → (o : Order) (bytes : List ℕ) (m : ManifestLines) (t : Node) (f : Flash)
-    → CramfsTree o bytes (2 ^ 20) 64 t → length bytes < 2 ^ 32 → HoldsImage f bytes → IsPlaced t m → AreInPlace o f t m
-in_place law o bytes m t f tree little held placed l g n ns x has filed align names under regular =
+    (contents : List (List ℕ)) (sizes : List ℕ) → CramfsTree o bytes (2 ^ 20) 64 t → length bytes < 2 ^ 32
+    → HoldsImage f bytes → IsPlaced t m → IsMeant bytes t contents m sizes → AreInPlace o f t m
+in_place law o bytes m t f contents sizes tree little held placed meant l g n ns x has filed align names under =
+    let regular = regular_at bytes t contents m sizes meant l g n ns x has filed names under in
     let r = placed l g n ns x has filed names under in
     let start : ℕ = r.0 * g.align in
     let page : start % 4096 ≡ 0 = on_page r.0 g.align align in
     let base = held.aligned in
     record {
+      regular = regular;
       start = start;
       aligned = page;
       run = r.1;

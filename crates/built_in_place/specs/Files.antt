@@ -19,20 +19,20 @@ pub record HoldsImage (f : Flash) (bytes : List ℕ) : Type 0 where
   pub some : f.address ≢ 0
   pub aligned : f.address % 4096 ≡ 0
 
--- the file's bytes are in one run, which begins with a page; and each page of each mapping that
+-- the node is a regular file; its bytes are in one run, which begins with a page; and each page of each mapping that
 -- cannot be written is mapped at its place, except a shared last one
 pub record IsFileInPlace (o : Order) (f : Flash) (x : Node) : Type 0 where
+  pub regular : is_regular x ≡ true
   pub start : ℕ
   pub aligned : start % 4096 ≡ 0
   pub run : places_of x ≡ row_from start (length (places_of x))
   pub mapped : IsInPlace o f x start
 
 -- A line l of the manifest leads to a regular file, as `file`, `same` and `hard` lines do, and g is
--- the `file` line whose contents that file has. If the ALIGN of g is a multiple of 4,096, the file
--- is in place.
+-- the `file` line whose contents that file has. If the ALIGN of g is a multiple of 4,096, the node
+-- at the path of l is a file in place.
 abbrev pub AreInPlace : Order → Flash → Node → ManifestLines → Type 0
 AreInPlace o f t m =
     (l g : Line) (n : List ℕ) (ns : List (List ℕ)) (x : Node) → Has (λ k. k ≡ l) m.lines
     → filed (reverse m.lines) l.path ≡ Some g → g.align % 4096 ≡ 0
-    → names_of l.path ≡ Some (n ∷ ns) → node_under (n ∷ ns) t ≡ Some x → is_regular x ≡ true
-    → IsFileInPlace o f x
+    → names_of l.path ≡ Some (n ∷ ns) → node_under (n ∷ ns) t ≡ Some x → IsFileInPlace o f x

@@ -1,5 +1,5 @@
 //! What Linux maps of the files of a built image.
-ghost use Rattle.std.specs.Prelude.{◌≡◌, ◌<◌, ◌^◌, ℕ, List, Ok, Option, length};
+ghost use Rattle.std.specs.Prelude.{◌≡◌, ℕ, List, Ok, Option};
 ghost use Rattle.built_in_place.specs.Files.{AreInPlace, HoldsImage};
 ghost use Rattle.cramfs_format.specs.declared.order.Order.{Order};
 ghost use Rattle.cramfs_mapping.specs.Physmem.{Flash};
@@ -22,6 +22,7 @@ pub fn built_is_in_place()
         → manifest_of text ≡ Ok m → HasTree bytes usual t → HoldsImage f bytes
         → AreInPlace o f t m }
 {
+    image_build::laws::built_is_accepted();
     image_build::laws::built_is_placed();
     image_check::laws::one_tree();
     manifest_layout::laws::layout_is_meant();
@@ -34,10 +35,9 @@ pub fn streamed_is_in_place()
         (old new : Option (List ℕ)) (t : Node) (f : Flash) → (is : IsPlanOfText text p)
         → p.format ≡ cramfs o
         → (w : IsWritten known (form_in p.format p) (stored_in p.format) old new)
-        → length (image_with p w.rest) < 2 ^ 32 → HasTree (image_with p w.rest) usual t
+        → HasTree (image_with p w.rest) usual t
         → HoldsImage f (image_with p w.rest) → AreInPlace o f t is.lines }
 {
-    image_build::laws::streamed_is_placed();
-    image_check::laws::one_tree();
-    cramfs_mapping::laws::aligned_is_in_place();
+    image_build::laws::streamed_is_accepted();
+    built_is_in_place();
 }
