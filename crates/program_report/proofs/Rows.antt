@@ -7,13 +7,12 @@ use Rattle.rom_tree.specs.Image.{Image, image_node}
 use Rattle.rom_tree.specs.Runs.{IsLongest}
 use Rattle.rom_tree.specs.Tree.{Node, places_of}
 use Rattle.rom_tree.proofs.Rows.{row_end}
-use Rattle.elf_format.specs.Header.{kind_in}
 use Rattle.image_check.specs.Any.{any_view}
 use Rattle.image_check.specs.declared.any.AnyImage.{AnyImage}
 use Rattle.program_report.specs.declared.question.Question.{Question}
 use Rattle.program_report.specs.declared.finding.Found.{Found}
 use Rattle.program_report.specs.declared.finding.Verdict.{Verdict}
-use Rattle.program_report.specs.Found.{found, found_at, found_on, is_program, row_len, verdict_in}
+use Rattle.program_report.specs.Found.{found, found_at, found_on, is_found, row_len, verdict_in}
 
 pub row_len_is : (p : ℕ) (ps : List ℕ) (n : ℕ) → ((k : ℕ) → k < n → slice_index ps k ≡ p + k) → n ≤ length ps
     → (n < length ps → slice_index ps n ≡ p + n → ⊥) → row_len p ps ≡ n
@@ -33,12 +32,12 @@ row_len_is p (q ∷ qs) (suc n) row within ends =
       | inr d ↦ absurd (d.1 e)
     ]
 
-kind_same : (a : AnyImage) (start len : ℕ) (k : Bool) (e : Option ℕ) (front b : List ℕ) {y : Bool}
-    → k ≡ is_program e → e ≡ kind_in front → front ≡ part_of b start len → b ≡ (any_view a).bytes → k ≡ y
-    → is_program (kind_in (part_of (any_view a).bytes start len)) ≡ y
-kind_same a start len k e front b {y} s t f c g =
-    sym (ap (λ (v : List ℕ). is_program (kind_in (part_of v start len))) c)
-    ∙ (sym (ap (λ (v : List ℕ). is_program (kind_in v)) f) ∙ (sym (ap is_program t) ∙ (sym s ∙ g)))
+kind_same : (a : AnyImage) (q : Question) (start len : ℕ) (k : Bool) (front b : List ℕ) {y : Bool}
+    → k ≡ is_found q front → front ≡ part_of b start len → b ≡ (any_view a).bytes → k ≡ y
+    → is_found q (part_of (any_view a).bytes start len) ≡ y
+kind_same a q start len k front b {y} s f c g =
+    sym (ap (λ (v : List ℕ). is_found q (part_of v start len)) c)
+    ∙ (sym (ap (λ (v : List ℕ). is_found q v) f) ∙ (sym s ∙ g))
 
 -- what is found of a file whose longest run from its first byte on is this one
 pub front_is : (a : AnyImage) (q : Question) (ps : List ℕ) (place len : ℕ) → IsLongest ps 0 (length ps) place len
@@ -66,21 +65,21 @@ pub run_within : (m : Image) (n : ℕ) (x : Node) (place len : ℕ) → image_no
 run_within m n x place len e l some =
     row_end m n x 0 (record { place = place; len = len }) e (record { some = some; within = l.within some; row = l.row })
 
--- the answer by the type that was read
-pub is_found : (a : AnyImage) (q : Question) (start len size : ℕ) (k : Bool) (e : Option ℕ) (front b : List ℕ)
-    (v : Verdict) → k ≡ is_program e → e ≡ kind_in front → front ≡ part_of b start len → b ≡ (any_view a).bytes
-    → k ≡ true → v ≡ verdict_in a q start len size → Some (found start size v) ≡ found_at a q start len size
+-- the answer by what was read
+pub found_one : (a : AnyImage) (q : Question) (start len size : ℕ) (k : Bool) (front b : List ℕ) (v : Verdict)
+    → k ≡ is_found q front → front ≡ part_of b start len → b ≡ (any_view a).bytes → k ≡ true
+    → v ≡ verdict_in a q start len size → Some (found start size v) ≡ found_at a q start len size
 unfolding found_at
-is_found a q start len size k e front b v s t f c y r =
-    let z : is_program (kind_in (part_of (any_view a).bytes start len)) ≡ true = kind_same a start len k e front b s t f c y in
+found_one a q start len size k front b v s f c y r =
+    let z : is_found q (part_of (any_view a).bytes start len) ≡ true = kind_same a q start len k front b s f c y in
     rw z (ap (λ (w : Verdict). Some (found start size w)) r)
 
-pub is_not_found : (a : AnyImage) (q : Question) (start len size : ℕ) (k : Bool) (e : Option ℕ) (front b : List ℕ)
-    → k ≡ is_program e → e ≡ kind_in front → front ≡ part_of b start len → b ≡ (any_view a).bytes → k ≡ false
+pub found_none : (a : AnyImage) (q : Question) (start len size : ℕ) (k : Bool) (front b : List ℕ)
+    → k ≡ is_found q front → front ≡ part_of b start len → b ≡ (any_view a).bytes → k ≡ false
     → None ≡ found_at a q start len size
 unfolding found_at
-is_not_found a q start len size k e front b s t f c y =
-    let z : is_program (kind_in (part_of (any_view a).bytes start len)) ≡ false = kind_same a start len k e front b s t f c y in
+found_none a q start len size k front b s f c y =
+    let z : is_found q (part_of (any_view a).bytes start len) ≡ false = kind_same a q start len k front b s f c y in
     rw z refl
 
 -- what is found begins where the run begins

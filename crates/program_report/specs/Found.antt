@@ -2,7 +2,7 @@
 -- (This project's own. The pages are those of `program_pages.specs.Counted`. Linux 6.1: with an MMU
 -- fs/cramfs/inode.c, `cramfs_physmem_mmap`, and fs/romfs/super.c, which has no mmap of its own;
 -- without one `cramfs_physmem_get_unmapped_area` and fs/romfs/mmap-nommu.c.)
-use Rattle.std.specs.Prelude.{ℕ, suc, ◌+◌, ◌/◌, ◌%◌, ◌^◌, ◌<◌, ◌==◌, ◌||◌, Bool, true, false}
+use Rattle.std.specs.Prelude.{ℕ, suc, ◌+◌, ◌/◌, ◌%◌, ◌^◌, ◌<◌, ◌==◌, ◌&&◌, ◌||◌, Bool, true, false}
 use Rattle.std.specs.Prelude.{if◌then◌else◌, List, [], ◌∷◌, length, Option, Some, None}
 use Rattle.std.specs.Prelude.{Result, Ok, Err}
 use Rattle.rom_fields.specs.Words.{part_of}
@@ -13,6 +13,7 @@ use Rattle.image_check.specs.Any.{any_view}
 use Rattle.elf_format.specs.Dynamic.{file_moves_text}
 use Rattle.elf_format.specs.Header.{kind_in}
 use Rattle.program_pages.specs.Counted.{flash_at, pages_of}
+use Rattle.program_pages.specs.Flat.{flat_of, is_flat}
 use Rattle.program_pages.specs.declared.counting.ProgramPages.{ProgramPages}
 use Rattle.program_pages.specs.declared.counting.NoProgram.{NoProgram}
 use Rattle.program_pages.specs.declared.counting.NoProgram.TheVariants as no
@@ -28,6 +29,10 @@ use Rattle.program_report.specs.declared.finding.Verdict.TheVariants.{InPlace, N
 abbrev pub is_program : Option ℕ → Bool
 is_program None = false
 is_program (Some kind) = (kind == 2) || (kind == 3)
+
+-- a file is an ELF program or library; or, without an MMU, a program in the flat format
+abbrev pub is_found : Question → List ℕ → Bool
+is_found q b = is_program (kind_in b) || (q.no_mmu && is_flat b)
 
 abbrev pub is_romfs : AnyImage → Bool
 is_romfs (any.Romfs s) = true
@@ -81,19 +86,30 @@ verdict_at romfs address b =
     (judged romfs (record { base = address; no_mmu = false; advice = false }) 0
     (pages_of (flash_at b address) false 0 (length b)))) else None
 
+-- the verdict on a program in the flat format, by its pages
+abbrev pub flat_verdict : Option ProgramPages → Verdict
+flat_verdict None = Not Unloadable 0
+flat_verdict (Some p) = InPlace p
+
+-- the verdict on a program of `size` bytes in one run
+abbrev pub run_verdict : AnyImage → Question → ℕ → ℕ → Verdict
+run_verdict a q start size =
+    if is_flat (part_of (any_view a).bytes start size)
+    then flat_verdict (flat_of (part_of (any_view a).bytes start size))
+    else unless_moved (file_moves_text (part_of (any_view a).bytes start size))
+    (judged (is_romfs a) q start
+    (pages_of (flash_at (any_view a).bytes q.base) q.no_mmu start size))
+
 -- the verdict on a program of `size` bytes, of which `len` are in one run from `start` on. A file in
 -- several runs is taken for one that is copied as a whole.
 abbrev pub verdict_in : AnyImage → Question → ℕ → ℕ → ℕ → Verdict
 verdict_in a q start len size =
-    if len == size then unless_moved (file_moves_text (part_of (any_view a).bytes start size))
-    (judged (is_romfs a) q start
-    (pages_of (flash_at (any_view a).bytes q.base) q.no_mmu start size))
-    else Not Scattered (page_count size)
+    if len == size then run_verdict a q start size else Not Scattered (page_count size)
 
 -- what is found of such a file, whose type is read in that run
 unfoldable pub found_at : AnyImage → Question → ℕ → ℕ → ℕ → Option Found
 found_at a q start len size =
-    if is_program (kind_in (part_of (any_view a).bytes start len))
+    if is_found q (part_of (any_view a).bytes start len)
     then Some (found start size (verdict_in a q start len size)) else None
 
 abbrev pub found_on : AnyImage → Question → List ℕ → Option Found

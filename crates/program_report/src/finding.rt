@@ -4,7 +4,8 @@ ghost use Rattle.rom_fields.specs.Words.{part_of};
 ghost use Rattle.rom_tree.specs.Tree.{Node};
 ghost use Rattle.rom_tree.specs.Image.{image_node, HasNode};
 ghost use Rattle.image_check.specs.Any.{any_view};
-ghost use Rattle.program_report.specs.Found.{found_at, found_in, is_program, is_romfs, judged};
+ghost use Rattle.program_report.specs.Found.{flat_verdict, found_at, found_in, is_found};
+ghost use Rattle.program_report.specs.Found.{is_program, is_romfs, judged, run_verdict};
 ghost use Rattle.program_report.specs.Found.{IsSmall, page_count, placed, unless_moved};
 ghost use Rattle.program_report.specs.Found.{verdict_at, verdict_in};
 ghost use Rattle.program_report.specs.Lines.{is_shared};
@@ -12,7 +13,7 @@ ghost use Rattle.program_report.specs.Lines.{is_shared};
 use crate::question::Question;
 use elf_format::{elf_kind, moves_text};
 use image_check::AnyImage;
-use program_pages::{NoProgram, ProgramPages, program_pages};
+use program_pages::{NoProgram, ProgramPages, flat_pages, is_flat, program_pages};
 use rom_fields::part;
 use rom_tree::{NodeId, TreeImage, is_regular_at, longest_run};
 
@@ -66,6 +67,14 @@ fn is_program(kind: Option<u16>) -> bool
         Some(kind) => kind == 2 || kind == 3,
         None => false,
     }
+}
+
+/// Returns whether a file of these bytes is an ELF program or library; or, without an MMU, a program
+/// in the flat format.
+fn is_found(question: &Question, b: &[u8]) -> bool
+    ensures { result ≡ is_found question.now b.now }
+{
+    is_program(elf_kind(b)) || (question.no_mmu && is_flat(b))
 }
 
 /// Returns whether an image is one of romfs.
@@ -181,6 +190,35 @@ fn bytes_in<'a>(b: &'a [u8], start: usize, len: usize) -> &'a [u8]
     }
 }
 
+/// Returns the verdict on a program in the flat format, by its pages.
+fn flat_verdict(pages: Option<ProgramPages>) -> Verdict
+    ensures { result ≡ flat_verdict pages }
+{
+    match pages {
+        Some(pages) => Verdict::InPlace(pages),
+        None => Verdict::Not {
+            reason: Reason::Unloadable,
+            pages: 0,
+        },
+    }
+}
+
+/// Returns the verdict on a program of `size` bytes that are in one run from `start` on.
+fn run_verdict(image: &AnyImage<'_>, question: &Question, start: u32, size: u32) -> Verdict
+    requires { start + size ≤ length (any_view image.now).bytes }
+    ensures { result ≡ run_verdict image.now question.now start size }
+{
+    let bytes = image.bytes();
+    let file = bytes_in(bytes, start as usize, size as usize);
+    if is_flat(file) {
+        return flat_verdict(flat_pages(file));
+    }
+    let (base, no_mmu) = (question.base, question.no_mmu);
+    let pages = program_pages(bytes, base, no_mmu, start as usize, size as usize);
+    let verdict = judged(is_romfs(image), question, start, pages);
+    unless_moved(moves_text(file), verdict)
+}
+
 /// Returns the verdict on a program of `size` bytes, of which the first `len` are from `start` on and
 /// the next is elsewhere.
 fn verdict_in(image: &AnyImage<'_>, question: &Question, start: u32, len: u64, size: u32) -> Verdict
@@ -193,13 +231,7 @@ fn verdict_in(image: &AnyImage<'_>, question: &Question, start: u32, len: u64, s
             pages: page_count(size),
         };
     }
-    let (bytes, base, no_mmu) = (image.bytes(), question.base, question.no_mmu);
-    let pages = program_pages(bytes, base, no_mmu, start as usize, size as usize);
-    let verdict = judged(is_romfs(image), question, start, pages);
-    unless_moved(
-        moves_text(bytes_in(bytes, start as usize, size as usize)),
-        verdict,
-    )
+    run_verdict(image, question, start, size)
 }
 
 /// Returns what is found of a file of `size` bytes, of which the first `len` are from `start` on
@@ -216,7 +248,7 @@ fn found_at(
     ensures start { IfSome result (λ f. f.start ≡ start) }
 {
     let front = bytes_in(image.bytes(), start as usize, len as usize);
-    if !is_program(elf_kind(front)) {
+    if !is_found(question, front) {
         return None;
     }
     Some(Found {
