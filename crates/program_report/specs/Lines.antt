@@ -1,11 +1,13 @@
 -- `programs_text`: a line for each program or library of an image, in the order of the list, and the
 -- totals. `warns`: whether there is one that is not, or not wholly, executed in place. (This
 -- project's own. What is found of a file is `specs/Found.antt`.)
-use Rattle.std.specs.Prelude.{ℕ, ◌+◌, ◌-◌, ◌*◌, ◌^◌, ◌||◌, min, nat_lt, Bool, false}
+use Rattle.std.specs.Prelude.{ℕ, zero, suc, ◌+◌, ◌-◌, ◌*◌, ◌%◌, ◌^◌, ◌==◌, ◌||◌, min}
+use Rattle.std.specs.Prelude.{nat_lt, Bool, false, slice_index}
 use Rattle.std.specs.Prelude.{if◌then◌else◌, List, [], ◌∷◌, ◌++◌, codes, decimal, Option, Some, None}
 use Rattle.std.specs.List.{flat_map}
 use Rattle.rom_fields.specs.Texts.{escaped}
 use Rattle.rom_tree.specs.Names.{Name, names}
+use Rattle.rom_tree.specs.Tree.{Node, is_regular, places_of}
 use Rattle.image_check.specs.declared.any.AnyImage.{AnyImage}
 use Rattle.image_check.specs.Any.{any_view}
 use Rattle.image_info.specs.Map.{address_text}
@@ -78,13 +80,39 @@ found_lines q path f =
     verdict_line path (q.base + f.start) f.verdict
     ++ (shared_line path (q.base + f.start) f ++ (if q.advice then unused_line path f else []))
 
-abbrev pub lines_of : Question → List ℕ → Option Found → List ℕ
-lines_of q path None = []
-lines_of q path (Some f) = found_lines q path f
+-- how many of the n bytes before an offset are zeros, one after the other up to it
+abbrev pub zeros_before : List ℕ → ℕ → ℕ → ℕ
+zeros_before b p zero = 0
+zeros_before b zero (suc n) = 0
+zeros_before b (suc p) (suc n) = if slice_index b p == 0 then suc (zeros_before b p n) else 0
+
+-- `object PATH ADDRESS N`: a file that is no program begins with a page of the flash, behind N bytes
+-- of zeros, fewer than a page
+abbrev pub object_line : AnyImage → Question → List ℕ → ℕ → List ℕ
+object_line a q path p =
+    if (q.base + p) % 4096 == 0
+    then line_of (codes "object ") path (q.base + p)
+    (decimal (zeros_before (any_view a).bytes p 4095) ∷ [])
+    else []
+
+abbrev pub object_at : AnyImage → Question → List ℕ → List ℕ → List ℕ
+object_at a q path [] = []
+object_at a q path (p ∷ ps) = object_line a q path p
+
+abbrev pub regular_lines : AnyImage → Question → List ℕ → Node → List ℕ
+regular_lines a q path x = if is_regular x then object_at a q path (places_of x) else []
+
+abbrev pub object_lines : AnyImage → Question → List ℕ → Node → List ℕ
+object_lines a q path x = if q.advice then regular_lines a q path x else []
+
+-- the lines of a node with this path
+abbrev pub node_lines : AnyImage → Question → List ℕ → Node → Option Found → List ℕ
+node_lines a q path x None = object_lines a q path x
+node_lines a q path x (Some f) = found_lines q path f
 
 -- the lines of a name
 abbrev pub name_lines : AnyImage → Question → Name → List ℕ
-name_lines a q n = lines_of q (escaped n.path) (found_in a q n.node)
+name_lines a q n = node_lines a q (escaped n.path) n.node (found_in a q n.node)
 
 -- a sum of 64 bits, or the greatest number of 64 bits
 abbrev pub sum64 : ℕ → ℕ → ℕ

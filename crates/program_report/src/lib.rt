@@ -8,6 +8,7 @@
 
 mod finding;
 mod lines;
+mod object;
 mod question;
 mod report;
 mod tally;

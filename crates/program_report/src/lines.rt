@@ -31,7 +31,7 @@ fn put_address<W: ByteWrite>(w: &mut W, failed: &mut bool, address: u64)
 }
 
 /// Puts a space and a number.
-fn put_number<W: ByteWrite>(w: &mut W, failed: &mut bool, n: u64)
+pub(crate) fn put_number<W: ByteWrite>(w: &mut W, failed: &mut bool, n: u64)
     ensures { Puts (sink (W.output w.old) failed.old) (sink (W.output w.new) failed.new)
         (32 ∷ [] ++ decimal n) }
 {
@@ -40,7 +40,7 @@ fn put_number<W: ByteWrite>(w: &mut W, failed: &mut bool, n: u64)
 }
 
 /// Puts a word, a path, a space and an address.
-fn put_head<'a, W: ByteWrite>(
+pub(crate) fn put_head<'a, W: ByteWrite>(
     w: &mut W,
     failed: &mut bool,
     word: &[u8],

@@ -8,18 +8,19 @@ ghost use Rattle.rom_tree.specs.Tree.{IsShallow, Node};
 ghost use Rattle.rom_tree.specs.Walks.{given_path};
 ghost use Rattle.image_check.specs.Any.{any_view};
 ghost use Rattle.program_report.specs.Found.{found_in};
-ghost use Rattle.program_report.specs.Lines.{lines_of, noted_if, programs_text, tally_warns};
+ghost use Rattle.program_report.specs.Lines.{node_lines, noted_if, programs_text, tally_warns};
 ghost use Rattle.program_report.specs.Lines.{total_line, warns};
 
 use crate::finding::found_in;
 use crate::lines::{put_found, put_total};
+use crate::object::put_other;
 use crate::question::Question;
 use crate::tally::Tally;
 use image_check::AnyImage;
 use rom_fields::{ByteWrite, Failed};
 use rom_tree::{NodeId, Walk};
 
-/// Puts the lines of the node that a walk returned last, if it is a program, and notes it.
+/// Puts the lines of the node that a walk returned last, and notes it if it is a program.
 fn put_name<'a, W: ByteWrite>(
     image: &AnyImage<'a>,
     question: &Question,
@@ -33,14 +34,17 @@ fn put_name<'a, W: ByteWrite>(
     requires fits { question.now.base + length (any_view image.now).bytes ≤ 2 ^ 64 }
     ensures puts { (x : Node) → image_node (any_view image.now) n.0 ≡ Some x
         → Puts (sink (W.output w.old) failed.old) (sink (W.output w.new) failed.new)
-        (lines_of question.now (escaped (given_path walk.now))
+        (node_lines image.now question.now (escaped (given_path walk.now)) x
         (found_in image.now question.now x)) }
     ensures notes { (x : Node) → image_node (any_view image.now) n.0 ≡ Some x
         → tally.new ≡ noted_if tally.old (found_in image.now question.now x) }
 {
-    if let Some(found) = found_in(image, question, n) {
-        put_found(w, failed, walk, question, &found);
-        *tally = tally.noted(&found);
+    match found_in(image, question, n) {
+        Some(found) => {
+            put_found(w, failed, walk, question, &found);
+            *tally = tally.noted(&found);
+        }
+        None => put_other(image, question, w, failed, n, walk),
     }
 }
 
@@ -69,10 +73,12 @@ fn finish<W: ByteWrite>(w: &mut W, tally: &Tally) -> Result<bool, Failed>
 ///   could be; the pages that Linux maps to the flash, those that it copies, and those of zeros
 ///   only;
 /// - `not PATH ADDRESS REASON PAGES`: a program of which nothing is in place; REASON is
-///   `unaligned`, `scattered`, `unloadable`, `table` or `romfs`, and PAGES are copied;
+///   `unaligned`, `scattered`, `unloadable`, `textrel`, `table` or `romfs`, and PAGES are copied;
 /// - `shared PATH ADDRESS N`: the program's last page has other data as well, and is copied; padded
 ///   to N bytes, the file has this page for itself;
 /// - `unused PATH N`, if advice is asked for: N bytes are behind the last segment, more than a page;
+/// - `object PATH ADDRESS N`, if advice is asked for: the file is no program, but begins with a page,
+///   behind N bytes of zeros, fewer than a page;
 /// - `total PROGRAMS IN-PLACE COPIED NOT`, at the end.
 ///
 /// # Errors

@@ -12,7 +12,7 @@ use Rattle.rom_tree.proofs.Listed.{fewer}
 use Rattle.image_check.specs.Any.{any_view}
 use Rattle.program_report.specs.declared.tally.Tally.{Tally}
 use Rattle.program_report.specs.Found.{found_in}
-use Rattle.program_report.specs.Lines.{lines_of, name_lines, nothing, programs_text, tally_from, tally_of, tally_warns}
+use Rattle.program_report.specs.Lines.{name_lines, node_lines, nothing, programs_text, tally_from, tally_of, tally_warns}
 use Rattle.program_report.specs.Lines.{total_line, warns}
 use Rattle.program_report.proofs.Walked.{more_texts, last_texts, writes_after, counts_after}
 use Rattle.program_report.proofs.report.write_programs.Goals as goal
@@ -44,7 +44,7 @@ loop-failed-preserved g c =
     let line : Name → List ℕ = name_lines a q in
     let old = sink (g.W.ByteWrite.output c.loop-failed.w) c.loop-failed.failed in
     let new = sink (g.W.ByteWrite.output c.put_name.new.w) c.put_name.new.failed in
-    let P : List ℕ → Type 0 = λ v. Puts old new (lines_of q (escaped v) (found_in a q n.name.node)) in
+    let P : List ℕ → Type 0 = λ v. Puts old new (node_lines a q (escaped v) n.name.node (found_in a q n.name.node)) in
     let t : Puts old new (line n.name) = subst P n.path (c.put_name.ensures.puts n.name.node n.node) in
     record {
       walk = c.in-Some.ensures.walk;
