@@ -23,8 +23,8 @@ or_root (b ∷ bs) = b ∷ bs
 abbrev pub path_behind : ℕ → List ℕ → List ℕ
 path_behind front place = or_root (drop front place)
 
--- the alignment of a regular file: the one that was asked for, if it is executed in place; otherwise
--- the usual one
+-- the alignment of a regular file: the one that was asked for, if it is executed in place;
+-- otherwise the usual one
 abbrev pub aligned : ℕ → Bool → ℕ
 aligned align is_program = if is_program then align else 4
 

@@ -82,7 +82,8 @@ MapsWhole =
 pub whole : MapsWhole → (o : Order) (bytes : List ℕ) (m : ManifestLines) (t : Node) (f : Flash)
     (contents : List (List ℕ)) (sizes : List ℕ) → CramfsTree o bytes (2 ^ 20) 64 t → length bytes < 2 ^ 32
     → HoldsImage f bytes → IsPlaced t m → IsMeant bytes t contents m sizes → AreMappedWhole o f t m
-whole law o bytes m t f contents sizes tree little held placed meant l g n ns x has filed names under k fixed begins within =
+whole law o bytes m t f contents sizes tree little held placed meant l g n ns x has filed names under k fixed begins
+    within =
     let regular = regular_at bytes t contents m sizes meant l g n ns x has filed names under in
     let r = placed l g n ns x has filed names under in
     law o bytes held.rest (2 ^ 20) 64 (r.0 * g.align) t x f k tree little held.front held.some

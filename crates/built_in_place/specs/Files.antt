@@ -22,8 +22,8 @@ pub record HoldsImage (f : Flash) (bytes : List ℕ) : Type 0 where
   pub some : f.address ≢ 0
   pub aligned : f.address % 4096 ≡ 0
 
--- the node is a regular file; its bytes are in one run, which begins with a page; and each page of each mapping that
--- cannot be written is mapped at its place, except a shared last one
+-- the node is a regular file; its bytes are in one run, which begins with a page; and each page of
+-- each mapping that cannot be written is mapped at its place, except a shared last one
 pub record IsFileInPlace (o : Order) (f : Flash) (x : Node) : Type 0 where
   pub regular : is_regular x ≡ true
   pub start : ℕ

@@ -29,8 +29,8 @@ pub fn built_is_in_place()
     cramfs_mapping::laws::aligned_is_in_place();
 }
 
-/// Shows that without an MMU each file of a built cramfs image is mapped whole by Linux, whatever its
-/// ALIGN, if the image is at the front of the flash.
+/// Shows that without an MMU each file of a built cramfs image is mapped whole by Linux, whatever
+/// its ALIGN, if the image is at the front of the flash.
 pub fn built_is_mapped_whole()
     ensures { (o : Order) (text : List ℕ) (contents : List (List ℕ)) (bytes : List ℕ)
         (m : ManifestLines) (t : Node) (f : Flash) → Builds (cramfs o) text contents (Ok bytes)

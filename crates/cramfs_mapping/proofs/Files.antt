@@ -22,7 +22,8 @@ use Rattle.cramfs_mapping.specs.InPlace.{pages_in_place, IsOwnPage, IsInPlace}
 use Rattle.cramfs_mapping.proofs.Mapped.{IsFileAt, mapped_is, flash_begins, whole_is}
 use Rattle.cramfs_mapping.proofs.Regular.{only_regular}
 
-long_if : (c : Bool) (n s all : ℕ) → 76 ≤ all → (c ≡ true → (76 ≤ s) × (s ≤ all)) → n ≡ (if c then s else min all (2 ^ 28))
+long_if : (c : Bool) (n s all : ℕ) → 76 ≤ all → (c ≡ true → (76 ≤ s) × (s ≤ all))
+    → n ≡ (if c then s else min all (2 ^ 28))
     → 76 ≤ min n all
 long_if true n s all l h e = let k = h refl in let a = k.0 in let b = k.1 in omega arith
 long_if false n s all l h e = omega arith
@@ -31,14 +32,16 @@ long_if false n s all l h e = omega arith
 long_cut : (o : Order) (bytes b : List ℕ) → IsSuperblock o bytes b → 76 ≤ length b
 unfolding accessible_size
 long_cut o bytes b s =
-    let e : length b ≡ min (accessible_size o bytes) (length bytes) = ap length s.cut ∙ length-take (accessible_size o bytes) bytes in
+    let e : length b ≡ min (accessible_size o bytes) (length bytes) =
+    ap length s.cut ∙ length-take (accessible_size o bytes) bytes in
     let l : 76 ≤ min (accessible_size o bytes) (length bytes) =
     long_if (has_crc o bytes) (accessible_size o bytes) (size_word o bytes) (length bytes) s.long s.size refl in
     omega arith
 
 short_cut : (o : Order) (bytes b : List ℕ) → IsSuperblock o bytes b → length b ≤ length bytes
 short_cut o bytes b s =
-    let e : length b ≡ min (accessible_size o bytes) (length bytes) = ap length s.cut ∙ length-take (accessible_size o bytes) bytes in
+    let e : length b ≡ min (accessible_size o bytes) (length bytes) =
+    ap length s.cut ∙ length-take (accessible_size o bytes) bytes in
     omega arith
 
 front_cut : (o : Order) (bytes rest c b : List ℕ) → IsSuperblock o bytes b → c ≡ bytes ++ rest
@@ -50,7 +53,8 @@ front_cut o bytes rest c b s e =
 
 regular_made : (o : Order) (b : List ℕ) (k p : ℕ) → is_regular (made o b k p) ≡ true → type_of o b p ≡ 8
 unfolding made node_of
-regular_made o b k p e = only_regular kind_numbers (type_of o b p) (places_at o b p) (entries_at o b (list_at o b k p)) e
+regular_made o b k p e =
+    only_regular kind_numbers (type_of o b p) (places_at o b p) (entries_at o b (list_at o b k p)) e
 
 places_made : (o : Order) (b : List ℕ) (k p : ℕ) → type_of o b p ≡ 8 → places_of (made o b k p) ≡ places_at o b p
 places_made o b k p t = made_places o b k p ∙ (rw t refl)
@@ -66,7 +70,8 @@ file_at o bytes rest most deepest start t x f c small e i r run =
     let short = short_cut o bytes b c.super in
     let is = accepted o b most deepest c.forest c.whole long (omega arith) c.super.root.directory in
     let m = all_made is.0 x (subst (λ (v : Node). IsIn x (nodes v)) (c.same ∙ is.1) i) in
-    let file : type_of o b (ino_of x) ≡ 8 = regular_made o b _ (ino_of x) (subst (λ (v : Node). is_regular v ≡ true) m.is r) in
+    let file : type_of o b (ino_of x) ≡ 8 =
+    regular_made o b _ (ino_of x) (subst (λ (v : Node). is_regular v ≡ true) m.is r) in
     let places : places_of x ≡ places_at o b (ino_of x) = ap places_of m.is ∙ places_made o b _ (ino_of x) file in
     let size : size_of o b (ino_of x) ≡ length (places_of x) =
     sym (ap length places ∙ length_places o b (ino_of x)) in
@@ -134,7 +139,8 @@ in_place o bytes rest most deepest start t x f c small e a i r run aligned m k h
     let begins : block_start (pointer_of o f.bytes (ino_of x) m.first) ≡ start + 4096 * m.first =
     flash_begins g m.first (omega arith) in
     let here : slice_index (places_of x) (4096 * k) ≡ start + 4096 * k =
-    ap (λ (ps : List ℕ). slice_index ps (4096 * k)) run ∙ row_at start (length (places_of x)) (4096 * k) (omega arith) in
+    ap (λ (ps : List ℕ). slice_index ps (4096 * k)) run
+    ∙ row_at start (length (places_of x)) (4096 * k) (omega arith) in
     record {
       begins = l;
       within = subst (λ (v : ℕ). k < m.first + v) (sym n) within;

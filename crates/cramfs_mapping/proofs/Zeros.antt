@@ -1,5 +1,6 @@
 -- Bytes that are all zeros.
-use Rattle.std.proofs.Common.{◌≡◌, ◌≢◌, ℕ, zero, suc, ◌+◌, ◌-◌, ◌<◌, ◌≤◌, true, false, eqb, List, [], ◌∷◌, length, take, drop, length-drop}
+use Rattle.std.proofs.Common.{◌≡◌, ◌≢◌, ℕ, zero, suc, ◌+◌, ◌-◌, ◌<◌, ◌≤◌, true, false, eqb, List, [], ◌∷◌, length, take}
+use Rattle.std.proofs.Common.{drop, length-drop}
 use Rattle.std.proofs.Common.{if◌then◌else◌, refl, sym, ap, ◌∙◌, arith}
 use Rattle.std.proofs.lemmas.Bool.{eq-eqb, ne_eqb}
 use Rattle.std.specs.Prelude.{slice_index}
@@ -59,4 +60,5 @@ zeros_part b at n l = zeros_taken n (drop at b) (let e = length-drop at b in ome
 pub zeros_past : (b : List ℕ) (at n : ℕ) → (at + n ≤ length b → ⊥) → begins_with_zeros n (drop at b) ≡ eqb n 0
 zeros_past b at zero l = refl
 zeros_past b at (suc n) l =
-    zeros_short (suc n) (drop at b) (let e = length-drop at b in omega arith) ∙ sym (ne_eqb (suc n) 0 (λ e. omega arith))
+    zeros_short (suc n) (drop at b) (let e = length-drop at b in omega arith)
+    ∙ sym (ne_eqb (suc n) 0 (λ e. omega arith))

@@ -1,7 +1,8 @@
 -- `mapped_pages`: how many pages of a mapping of a file Linux maps to the flash itself. The others
--- are read into memory when they are used. `is_whole`: without an MMU Linux maps all of them. (Linux 6.1 fs/cramfs/inode.c with CONFIG_CRAMFS_MTD:
--- `get_cramfs_inode`, `cramfs_physmem_mmap`, `cramfs_get_block_range`,
--- `cramfs_last_page_is_shared` and `cramfs_physmem_get_unmapped_area`. Pages are of 4,096 bytes. The machine has the image's byte order.)
+-- are read into memory when they are used. `is_whole`: without an MMU Linux maps all of them.
+-- (Linux 6.1 fs/cramfs/inode.c with CONFIG_CRAMFS_MTD: `get_cramfs_inode`, `cramfs_physmem_mmap`,
+-- `cramfs_get_block_range`, `cramfs_last_page_is_shared` and `cramfs_physmem_get_unmapped_area`.
+-- Pages are of 4,096 bytes. The machine has the image's byte order.)
 use Rattle.std.specs.Prelude.{◌≡◌, ◌≤◌, ◌<◌, ℕ, zero, suc, ◌+◌, ◌-◌, ◌*◌, ◌/◌, ◌%◌, ◌^◌, min}
 use Rattle.std.specs.Prelude.{nat_lt, Bool, true, false, if◌then◌else◌, ◌==◌, List, [], ◌∷◌, drop}
 use Rattle.cramfs_format.specs.declared.order.Order.{Order}
@@ -24,8 +25,8 @@ is_mappable o f p =
     (if has_kinds (word o f.bytes 8) then (if f.address == 0 then false else true) else false)
     else false
 
--- the pointer is the one that is expected i pages behind a start, which is in units of 4 bytes: bits
--- 31 and 30 and the start of the block, in a word of 32 bits
+-- the pointer is the one that is expected i pages behind a start, which is in units of 4 bytes:
+-- bits 31 and 30 and the start of the block, in a word of 32 bits
 abbrev pub is_expected : ℕ → ℕ → ℕ → Bool
 is_expected start i pointer =
     if is_direct pointer then pointer % 2 ^ 30 == (start + 1024 * i) % 2 ^ 30 else false
@@ -81,7 +82,8 @@ mapped_pages o f p m =
 pub record IsMappedAt (o : Order) (f : Flash) (p : ℕ) (m : Mapping) (k address : ℕ) : Type 0 where
   pub begins : m.first ≤ k
   pub within : k < m.first + mapped_pages o f p m
-  pub here : address ≡ f.address + block_start (pointer_of o f.bytes p m.first) + 4096 * (k - m.first)
+  pub here : address
+      ≡ f.address + block_start (pointer_of o f.bytes p m.first) + 4096 * (k - m.first)
 
 -- n pages from `first` on are some of the file, and are in one run
 abbrev pub is_run : Order → Flash → ℕ → ℕ → ℕ → Bool

@@ -1,7 +1,9 @@
 -- `moves_text`: a segment for dynamic linking says that the text has relocations, which the dynamic
--- linker writes into it. `file_moves_text`: a file has such a segment. (System V gABI, "Dynamic Section". An entry has a tag and a value, each of
--- the size of an address; DT_NULL ends the table.)
-use Rattle.std.specs.Prelude.{ℕ, zero, suc, ◌+◌, ◌-◌, ◌*◌, ◌/◌, ◌%◌, min, ◌==◌, ◌&&◌, ◌||◌, Bool, true, false}
+-- linker writes into it. `file_moves_text`: a file has such a segment. (System V gABI, "Dynamic
+-- Section". An entry has a tag and a value, each of the size of an address; DT_NULL ends the
+-- table.)
+use Rattle.std.specs.Prelude.{ℕ, zero, suc, ◌+◌, ◌-◌, ◌*◌, ◌/◌, ◌%◌, min, ◌==◌, ◌&&◌, ◌||◌, Bool}
+use Rattle.std.specs.Prelude.{true, false}
 use Rattle.std.specs.Prelude.{if◌then◌else◌, List, length, Result, Ok, Err}
 use Rattle.elf_format.specs.Header.{header_of, number, program_at, width}
 use Rattle.elf_format.specs.declared.error.ElfError.{ElfError}

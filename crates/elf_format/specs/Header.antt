@@ -1,9 +1,9 @@
 -- An ELF file's header and its program headers, of 32 and 64 bits, in either byte order.
 -- `BeginsElf`: the bytes begin with a header. `HasPrograms`: its table of program headers is one
--- that Linux loads. `Reads`: what a reader answers. `kind_in`, `header_of`: the same as functions of
--- the bytes. `program_at`: a program header's fields.
--- (System V gABI, "ELF Header" and "Program Header"; elf(5). The limits of the table are those of
--- Linux 6.1 fs/binfmt_elf.c, `load_elf_phdrs`.)
+-- that Linux loads. `Reads`: what a reader answers. `kind_in`, `header_of`: the same as functions
+-- of the bytes. `program_at`: a program header's fields. (System V gABI, "ELF Header" and "Program
+-- Header"; elf(5). The limits of the table are those of Linux 6.1 fs/binfmt_elf.c,
+-- `load_elf_phdrs`.)
 --
 --   of 32 bits              of 64 bits
 --    4 class 1               4 class 2      byte 5: 1 little-endian, 2 big-endian

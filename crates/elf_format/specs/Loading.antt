@@ -1,9 +1,10 @@
--- `loaded`: what Linux maps for a program header of a file of a size. `IsInFile`: its pages are some
--- of the file. `zero_pages`: the pages of zeros behind them. (Linux 6.1
--- fs/binfmt_elf.c: `load_elf_binary`, `elf_map`, and mm/util.c: `vm_mmap`, which refuses an offset
--- within a page. Pages are of 4,096 bytes. A segment beyond the end of the file is mapped, but an
--- access to it is fatal: here it is refused.)
-use Rattle.std.specs.Prelude.{◌≤◌, ℕ, ◌+◌, ◌-◌, ◌/◌, ◌%◌, Bool, false, true, if◌then◌else◌, ◌==◌, nat_lt}
+-- `loaded`: what Linux maps for a program header of a file of a size. `IsInFile`: its pages are
+-- some of the file. `zero_pages`: the pages of zeros behind them. (Linux 6.1 fs/binfmt_elf.c:
+-- `load_elf_binary`, `elf_map`, and mm/util.c: `vm_mmap`, which refuses an offset within a page.
+-- Pages are of 4,096 bytes. A segment beyond the end of the file is mapped, but an access to it is
+-- fatal: here it is refused.)
+use Rattle.std.specs.Prelude.{◌≤◌, ℕ, ◌+◌, ◌-◌, ◌/◌, ◌%◌, Bool, false, true, if◌then◌else◌, ◌==◌}
+use Rattle.std.specs.Prelude.{nat_lt}
 use Rattle.elf_format.specs.declared.loading.Loading.{Loading}
 use Rattle.elf_format.specs.declared.loading.Loading.TheVariants.{Nothing, Refused, Pages}
 use Rattle.elf_format.specs.declared.program.Program.{Program}

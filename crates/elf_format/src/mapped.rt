@@ -21,8 +21,9 @@ fn is_executed(kind: u16) -> bool
     kind == 2 || kind == 3
 }
 
-/// Returns whether an ELF file is a program or a library with a segment that cannot be written: then
-/// Linux can map it from flash. The bytes are the file, or a front of it with all program headers.
+/// Returns whether an ELF file is a program or a library with a segment that cannot be written:
+/// then Linux can map it from flash. The bytes are the file, or a front of it with all program
+/// headers.
 #[tactic(auto, unfolding(crate::specs::Mapped::has_fixed))]
 pub fn has_fixed(b: &[u8]) -> bool
     ensures { result ≡ has_fixed b.now }

@@ -77,9 +77,9 @@ ghost use Rattle.rom_tree.specs.declared.types.Limits.{Limits};
 ///
 /// If the image is cramfs, and is at the front of flash that has an address and begins with a page,
 /// Linux maps the pages of each file whose ALIGN is a multiple of 4,096 to the flash itself: each
-/// page at the flash's address plus the page's offset, in each mapping that cannot be written, except
-/// a last page with other data behind the file. Without an MMU, Linux maps each such mapping of any
-/// file whole.
+/// page at the flash's address plus the page's offset, in each mapping that cannot be written,
+/// except a last page with other data behind the file. Without an MMU, Linux maps each such mapping
+/// of any file whole.
 pub fn headline()
     ensures accepted { (limits : Limits) (bytes : List ℕ) (r₀ r : Input) (w₀ w : Output)
         (o : Serving) → ServingEndsUnder limits bytes r₀ r w₀ w o

@@ -12,7 +12,8 @@ use Rattle.elf_format.specs.declared.header.Header.{Header}
 use Rattle.elf_format.specs.declared.program.Program.{Program}
 use Rattle.program_pages.specs.declared.counting.ProgramPages.{ProgramPages}
 use Rattle.program_pages.specs.declared.counting.NoProgram.TheVariants.{Unloadable}
-use Rattle.program_pages.specs.Counted.{all_load, flash_at, is_refused, pages_by, pages_of, pages_sum, plus, segment_pages}
+use Rattle.program_pages.specs.Counted.{all_load, flash_at, is_refused, pages_by, pages_of, pages_sum, plus}
+use Rattle.program_pages.specs.Counted.{segment_pages}
 
 -- a program header that does not load is one of the first n
 pub some_refused : (size : ℕ) (b : List ℕ) (h : Header) (i n : ℕ) → i < n
@@ -53,7 +54,8 @@ pub load_more : (size : ℕ) (b : List ℕ) (h : Header) (n : ℕ) (p : Program)
     → is_refused (loaded size p) ≡ false → all_load size b h n ≡ true → all_load size b h (n + 1) ≡ true
 load_more size b h n p e r l =
     let k : n + 1 ≡ suc n = omega arith in
-    let z : is_refused (loaded size (program_at b h n)) ≡ false = sym (ap (λ (q : Program). is_refused (loaded size q)) e) ∙ r in
+    let z : is_refused (loaded size (program_at b h n)) ≡ false =
+    sym (ap (λ (q : Program). is_refused (loaded size q)) e) ∙ r in
     rw (k, z) l
 
 -- the answer by what was read of the header

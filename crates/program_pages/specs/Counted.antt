@@ -17,7 +17,8 @@ use Rattle.elf_format.specs.declared.loading.Loading.TheVariants.{Nothing, Refus
 use Rattle.elf_format.specs.declared.program.Program.{Program}
 use Rattle.program_pages.specs.declared.counting.ProgramPages.{ProgramPages}
 use Rattle.program_pages.specs.declared.counting.NoProgram.{NoProgram}
-use Rattle.program_pages.specs.declared.counting.NoProgram.TheVariants.{NotElf, BadTable, Unloadable}
+use Rattle.program_pages.specs.declared.counting.NoProgram.TheVariants.{NotElf, BadTable}
+use Rattle.program_pages.specs.declared.counting.NoProgram.TheVariants.{Unloadable}
 
 -- the flash of these bytes that begins at this address
 abbrev pub flash_at : List ℕ → ℕ → Flash

@@ -5,7 +5,8 @@
 --    4 rev                 36 flags: 1 FLAT_FLAG_RAM, 4 FLAT_FLAG_GZIP
 --   12 data_start          64 bytes in all, with words whose highest byte is first
 --   16 data_end
-use Rattle.std.specs.Prelude.{ℕ, ◌+◌, ◌-◌, ◌/◌, ◌%◌, ◌^◌, ◌==◌, ◌&&◌, ◌||◌, nat_lt, not, Bool, false}
+use Rattle.std.specs.Prelude.{ℕ, ◌+◌, ◌-◌, ◌/◌, ◌%◌, ◌^◌, ◌==◌, ◌&&◌, ◌||◌, nat_lt, not, Bool}
+use Rattle.std.specs.Prelude.{false}
 use Rattle.std.specs.Prelude.{if◌then◌else◌, List, length, slice_index, Option, Some, None}
 use Rattle.rom_fields.specs.Words.{word_be}
 use Rattle.program_pages.specs.declared.counting.ProgramPages.{ProgramPages}
@@ -23,7 +24,8 @@ is_laid size text init bss =
     else (if nat_lt size text then false
     else (if nat_lt init text then false
     else (if nat_lt bss init then false
-    else (nat_lt text (2 ^ 28) && (nat_lt (init - text) (2 ^ 28) && nat_lt (bss - init) (2 ^ 28))))))
+    else (nat_lt text (2 ^ 28)
+    && (nat_lt (init - text) (2 ^ 28) && nat_lt (bss - init) (2 ^ 28))))))
 
 abbrev pub pages_in : ℕ → ℕ
 pages_in n = (n + 4095) / 4096

@@ -1,5 +1,6 @@
--- `mapped_sum`: the pages that Linux maps to the flash for the program headers of a file. (Linux 6.1
--- fs/binfmt_elf.c and fs/cramfs/inode.c: `elf_format.specs.Loading`, `cramfs_mapping.specs.Physmem`.)
+-- `mapped_sum`: the pages that Linux maps to the flash for the program headers of a file. (Linux
+-- 6.1 fs/binfmt_elf.c and fs/cramfs/inode.c: `elf_format.specs.Loading`,
+-- `cramfs_mapping.specs.Physmem`.)
 use Rattle.std.specs.Prelude.{ℕ, zero, suc, ◌+◌, List}
 use Rattle.cramfs_format.specs.declared.order.Order.{Order}
 use Rattle.cramfs_mapping.specs.Physmem.{Flash, mapped_pages}

@@ -2,8 +2,8 @@
 //! memory.
 //!
 //! Proved: the counts are those of `specs/Counted.antt`, over the program headers of the file. A
-//! file that is no program, or one with a segment that Linux does not load, is told apart. The pages
-//! in place are those that Linux maps to the flash (`laws::counted_is_mapped`).
+//! file that is no program, or one with a segment that Linux does not load, is told apart. The
+//! pages in place are those that Linux maps to the flash (`laws::counted_is_mapped`).
 #![tactic(auto)]
 
 mod counting;

@@ -1,5 +1,6 @@
 -- The run with which a file begins.
-use Rattle.std.proofs.Common.{◌≡◌, ℕ, Bool, zero, suc, ◌+◌, ◌<◌, ◌≤◌, true, false, List, [], ◌∷◌, length, refl, sym, ap, ◌∙◌, arith, inl, inr, Option, Some, None, zero-add, rules}
+use Rattle.std.proofs.Common.{◌≡◌, ℕ, Bool, zero, suc, ◌+◌, ◌<◌, ◌≤◌, true, false, List, [], ◌∷◌, length, refl, sym, ap}
+use Rattle.std.proofs.Common.{◌∙◌, arith, inl, inr, Option, Some, None, zero-add, rules}
 use Rattle.std.specs.Prelude.{slice_index, IfSome}
 use Rattle.std.proofs.lemmas.Bool.Decides.{eqb_tells}
 use Rattle.rom_fields.specs.Words.{part_of}
@@ -63,7 +64,8 @@ none_found a q (p ∷ rest) place len l e = absurd (let s = l.some (omega arith)
 pub run_within : (m : Image) (n : ℕ) (x : Node) (place len : ℕ) → image_node m n ≡ Some x
     → IsLongest (places_of x) 0 (length (places_of x)) place len → 0 < len → place + len ≤ length m.bytes
 run_within m n x place len e l some =
-    row_end m n x 0 (record { place = place; len = len }) e (record { some = some; within = l.within some; row = l.row })
+    row_end m n x 0 (record { place = place; len = len }) e
+    (record { some = some; within = l.within some; row = l.row })
 
 -- the answer by what was read
 pub found_one : (a : AnyImage) (q : Question) (start len size : ℕ) (k : Bool) (front b : List ℕ) (v : Verdict)

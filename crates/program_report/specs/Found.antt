@@ -78,8 +78,8 @@ unless_moved moved (InPlace p) =
     if moved then (if p.fixed == 0 then InPlace p else Not TextRelocations (p.in_place + p.copied))
     else InPlace p
 
--- the verdict on a program whose file has the bytes b and begins at this address; of what follows the
--- file nothing is known
+-- the verdict on a program whose file has the bytes b and begins at this address; of what follows
+-- the file nothing is known
 unfoldable pub verdict_at : Bool → ℕ → List ℕ → Option Verdict
 verdict_at romfs address b =
     if is_program (kind_in b) then Some (unless_moved (file_moves_text b)
@@ -100,8 +100,8 @@ run_verdict a q start size =
     (judged (is_romfs a) q start
     (pages_of (flash_at (any_view a).bytes q.base) q.no_mmu start size))
 
--- the verdict on a program of `size` bytes, of which `len` are in one run from `start` on. A file in
--- several runs is taken for one that is copied as a whole.
+-- the verdict on a program of `size` bytes, of which `len` are in one run from `start` on. A file
+-- in several runs is taken for one that is copied as a whole.
 abbrev pub verdict_in : AnyImage → Question → ℕ → ℕ → ℕ → Verdict
 verdict_in a q start len size =
     if len == size then run_verdict a q start size else Not Scattered (page_count size)

@@ -1,9 +1,10 @@
--- `programs_text`: a line for each program or library of an image, in the order of the list, and the
--- totals. `warns`: whether there is one that is not, or not wholly, executed in place. (This
+-- `programs_text`: a line for each program or library of an image, in the order of the list, and
+-- the totals. `warns`: whether there is one that is not, or not wholly, executed in place. (This
 -- project's own. What is found of a file is `specs/Found.antt`.)
 use Rattle.std.specs.Prelude.{ℕ, zero, suc, ◌+◌, ◌-◌, ◌*◌, ◌%◌, ◌^◌, ◌==◌, ◌||◌, min}
 use Rattle.std.specs.Prelude.{nat_lt, Bool, false, slice_index}
-use Rattle.std.specs.Prelude.{if◌then◌else◌, List, [], ◌∷◌, ◌++◌, codes, decimal, Option, Some, None}
+use Rattle.std.specs.Prelude.{if◌then◌else◌, List, [], ◌∷◌, ◌++◌, codes, decimal, Option, Some}
+use Rattle.std.specs.Prelude.{None}
 use Rattle.std.specs.List.{flat_map}
 use Rattle.rom_fields.specs.Texts.{escaped}
 use Rattle.rom_tree.specs.Names.{Name, names}
@@ -86,8 +87,8 @@ zeros_before b p zero = 0
 zeros_before b zero (suc n) = 0
 zeros_before b (suc p) (suc n) = if slice_index b p == 0 then suc (zeros_before b p n) else 0
 
--- `object PATH ADDRESS N`: a file that is no program begins with a page of the flash, behind N bytes
--- of zeros, fewer than a page
+-- `object PATH ADDRESS N`: a file that is no program begins with a page of the flash, behind N
+-- bytes of zeros, fewer than a page
 abbrev pub object_line : AnyImage → Question → List ℕ → ℕ → List ℕ
 object_line a q path p =
     if (q.base + p) % 4096 == 0

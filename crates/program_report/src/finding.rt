@@ -69,8 +69,8 @@ fn is_program(kind: Option<u16>) -> bool
     }
 }
 
-/// Returns whether a file of these bytes is an ELF program or library; or, without an MMU, a program
-/// in the flat format.
+/// Returns whether a file of these bytes is an ELF program or library; or, without an MMU, a
+/// program in the flat format.
 fn is_found(question: &Question, b: &[u8]) -> bool
     ensures { result ≡ is_found question.now b.now }
 {
@@ -159,8 +159,8 @@ pub(crate) fn page_count(size: u32) -> u64
 }
 
 /// Returns the verdict on a program whose file has these bytes, if it begins at an address of the
-/// flash, or `None` if they are no program. The machine has an MMU. Of what follows the file nothing
-/// is known, so a last page that is not full counts as copied.
+/// flash, or `None` if they are no program. The machine has an MMU. Of what follows the file
+/// nothing is known, so a last page that is not full counts as copied.
 #[tactic(auto, unfolding(crate::specs::Found::verdict_at))]
 pub fn verdict_at(is_romfs: bool, address: u64, b: &[u8]) -> Option<Verdict>
     requires { length b.now < 2 ^ 48 }
@@ -219,8 +219,8 @@ fn run_verdict(image: &AnyImage<'_>, question: &Question, start: u32, size: u32)
     unless_moved(moves_text(file), verdict)
 }
 
-/// Returns the verdict on a program of `size` bytes, of which the first `len` are from `start` on and
-/// the next is elsewhere.
+/// Returns the verdict on a program of `size` bytes, of which the first `len` are from `start` on
+/// and the next is elsewhere.
 fn verdict_in(image: &AnyImage<'_>, question: &Question, start: u32, len: u64, size: u32) -> Verdict
     requires { start + len ≤ length (any_view image.now).bytes }
     ensures { result ≡ verdict_in image.now question.now start len size }

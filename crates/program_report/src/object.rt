@@ -94,7 +94,8 @@ fn put_regular<'a, W: ByteWrite>(
     }
 }
 
-/// Puts the line of the node that a walk returned last, which is no program, if advice is asked for.
+/// Puts the line of the node that a walk returned last, which is no program, if advice is asked
+/// for.
 pub(crate) fn put_other<'a, W: ByteWrite>(
     image: &AnyImage<'a>,
     question: &Question,

@@ -76,8 +76,10 @@ fn finish<W: ByteWrite>(w: &mut W, tally: &Tally) -> Result<bool, Failed>
 ///   `unaligned`, `scattered`, `unloadable`, `textrel`, `table` or `romfs`, and PAGES are copied;
 /// - `shared PATH ADDRESS N`: the program's last page has other data as well, and is copied; padded
 ///   to N bytes, the file has this page for itself;
-/// - `unused PATH N`, if advice is asked for: N bytes are behind the last segment, more than a page;
-/// - `object PATH ADDRESS N`, if advice is asked for: the file is no program, but begins with a page,
+/// - `unused PATH N`, if advice is asked for: N bytes are behind the last segment, more than a
+///   page;
+/// - `object PATH ADDRESS N`, if advice is asked for: the file is no program, but begins with a
+///   page,
 ///   behind N bytes of zeros, fewer than a page;
 /// - `total PROGRAMS IN-PLACE COPIED NOT`, at the end.
 ///

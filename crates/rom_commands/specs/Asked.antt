@@ -26,8 +26,8 @@ sound_text (Programs q) a = programs_text a q
 sound_text (Facts file) a = info_text file a
 sound_text (Fit file limit) a = info_text file a ++ room_text limit a
 
--- whether it reports something that Linux misreads, a program that is not executed in place, or that
--- the image does not fit
+-- whether it reports something that Linux misreads, a program that is not executed in place, or
+-- that the image does not fit
 abbrev pub warns : Asked → AnyImage → Bool
 warns Misreads a = is_printed (misreads_text a)
 warns (Programs q) a = programs_warn a q

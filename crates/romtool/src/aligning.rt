@@ -91,8 +91,8 @@ fn align_each(
 }
 
 /// Sets the alignment of each regular file: that of the last pattern that matches its path;
-/// otherwise this one if the file is a program or a library that is executed in place. A file with several names
-/// has the largest alignment of these names. Reports a file that cannot be read.
+/// otherwise this one if the file is a program or a library that is executed in place. A file with
+/// several names has the largest alignment of these names. Reports a file that cannot be read.
 pub fn align_all(
     reporter: &Reporter<'_>,
     patterns: &Patterns,

@@ -80,8 +80,8 @@ fn reason_at(is_romfs: bool, place: u32, bytes: &[u8]) -> Option<Reason> {
     }
 }
 
-/// Returns the first line of a program that Linux would not execute in place, if the image is at the
-/// front of a page of the flash. The sources have these names and states.
+/// Returns the first line of a program that Linux would not execute in place, if the image is at
+/// the front of a page of the flash. The sources have these names and states.
 pub fn first_unplaced<'m>(
     rt: &HostRuntime,
     plan: &Plan,

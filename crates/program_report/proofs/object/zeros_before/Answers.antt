@@ -10,21 +10,25 @@ ended count rest all e h = omega arith
 pub returns-then-b-at-ne0 : goal.returns-then-b-at-ne0
 returns-then-b-at-ne0 c =
     let b = c.args.b.now in
-    ended c.loop-count.count (zeros_before b c.loop-count.at (4095 - c.loop-count.count)) (zeros_before b c.args.at 4095)
-    (zeros_stop b c.loop-count.at (4095 - c.loop-count.count) c.if-at-gt0.true c.if-b-at-ne0.true) c.loop-count.invariant.same
+    ended c.loop-count.count (zeros_before b c.loop-count.at (4095 - c.loop-count.count))
+    (zeros_before b c.args.at 4095)
+    (zeros_stop b c.loop-count.at (4095 - c.loop-count.count) c.if-at-gt0.true c.if-b-at-ne0.true)
+    c.loop-count.invariant.same
 
 pub returns-else-at-gt0 : goal.returns-else-at-gt0
 returns-else-at-gt0 c =
     let b = c.args.b.now in
     let f = c.if-at-gt0.false in
-    ended c.loop-count.count (zeros_before b c.loop-count.at (4095 - c.loop-count.count)) (zeros_before b c.args.at 4095)
+    ended c.loop-count.count (zeros_before b c.loop-count.at (4095 - c.loop-count.count))
+    (zeros_before b c.args.at 4095)
     (zeros_front b c.loop-count.at (4095 - c.loop-count.count) (omega arith)) c.loop-count.invariant.same
 
 pub returns-after-loop-count : goal.returns-after-loop-count
 returns-after-loop-count c =
     let b = c.args.b.now in
     let f = c.loop-count-test.false in
-    ended c.loop-count.count (zeros_before b c.loop-count.at (4095 - c.loop-count.count)) (zeros_before b c.args.at 4095)
+    ended c.loop-count.count (zeros_before b c.loop-count.at (4095 - c.loop-count.count))
+    (zeros_before b c.args.at 4095)
     (zeros_full b c.loop-count.at (4095 - c.loop-count.count) (omega arith)) c.loop-count.invariant.same
 
 pub loop-count-preserved : goal.loop-count-preserved

@@ -12,7 +12,8 @@ use Rattle.rom_tree.proofs.Listed.{fewer}
 use Rattle.image_check.specs.Any.{any_view}
 use Rattle.program_report.specs.declared.tally.Tally.{Tally}
 use Rattle.program_report.specs.Found.{found_in}
-use Rattle.program_report.specs.Lines.{name_lines, node_lines, nothing, programs_text, tally_from, tally_of, tally_warns}
+use Rattle.program_report.specs.Lines.{name_lines, node_lines, nothing, programs_text, tally_from, tally_of}
+use Rattle.program_report.specs.Lines.{tally_warns}
 use Rattle.program_report.specs.Lines.{total_line, warns}
 use Rattle.program_report.proofs.Walked.{more_texts, last_texts, writes_after, counts_after}
 use Rattle.program_report.proofs.report.write_programs.Goals as goal
