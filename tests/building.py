@@ -358,7 +358,11 @@ def rules_named_like_parts(binary):
     put(".x.romtool-0.part", b"old part")
     os.symlink(".x.romtool-0.part", "link")
     done = run(binary, "build", "--depfile", "link", "romfs", "m", "x")
-    if answer(done) != (b"ok 1024\n", b"", 0) or bytes_in(".x.romtool-0.part") != b"x: \\\n  m \\\n  a\n\na:\n" or not os.path.islink("link"):
+    if (
+        answer(done) != (b"ok 1024\n", b"", 0)
+        or bytes_in(".x.romtool-0.part") != b"x: \\\n  m \\\n  a\n\na:\n"
+        or not os.path.islink("link")
+    ):
         yield "a link to a part: %r" % (answer(done),)
     for name in ("x.0.part", ".x.romtool-100.part", ".x.romtool-.part", ".x.romtool-a.part", ".x.romtool-0.parts", "d/.x.romtool-0.part"):
         os.makedirs("d", exist_ok=True)

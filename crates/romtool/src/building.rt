@@ -9,6 +9,7 @@ use crate::depfile::Rule;
 use crate::disk::{Disk, first_changed};
 use crate::foreseen::{Warnings, foreseen};
 use crate::imaging::{Late, Unchanged};
+use crate::in_place::{Unknown, first_unplaced};
 use crate::origin::Origin;
 use crate::progress::Progress;
 use crate::reading::TextFile;
@@ -17,7 +18,9 @@ use crate::sources::{joined_names, names_of, sizes_of, stamps_of, texts_of};
 use crate::stamp::{Identity, Stamp, has_changed, let_rest};
 use crate::target::{FillError, Target};
 use crate::{bad_lines, depfile, explained, own_output, reading, warned};
-use build_commands::{print_bad_manifest, print_built, print_misfit, print_size, print_strict};
+use build_commands::{
+    print_bad_manifest, print_built, print_misfit, print_size, print_strict, print_xip,
+};
 use command_line::Build;
 use file_sources::FileSources;
 use image_build::StreamError;
@@ -462,6 +465,32 @@ fn warnings_of<'m>(
     }
 }
 
+/// Refuses a planned image in which Linux would not execute a program in place, if this is asked
+/// for.
+fn check_programs(
+    reporter: &Reporter<'_>,
+    asked: Build<'_>,
+    plan: &Plan,
+    files: Files<'_>,
+) -> Result<(), Status> {
+    if !asked.xip {
+        return Ok(());
+    }
+    let rt = reporter.rt;
+    match first_unplaced(rt, plan, files.origin, files.names, files.stamps) {
+        Ok(None) => Ok(()),
+        Ok(Some(found)) => {
+            let out = &mut Plain::new(Held::new(rt.alloc(), io::writer(rt)));
+            let word = found.reason.word();
+            let status = printed(reporter, print_xip(out, found.line, word, found.path));
+            warned::explain_unplaced(reporter, files.origin, found);
+            Err(status)
+        }
+        Err(Unknown::Memory) => Err(reporter.say(Ending::Memory)),
+        Err(Unknown::Source(file, e)) => Err(files.say_fault(reporter, file, Some(e))),
+    }
+}
+
 /// Writes the image of a plan into the file that is asked for, and the rule if one is.
 fn write_files(
     reporter: &Reporter<'_>,
@@ -518,10 +547,10 @@ fn build_from(
         names,
         stamps: &stamps,
     };
+    check_programs(reporter, asked, &plan, files)?;
     write_files(reporter, asked, &plan, files)?;
     let status = say_built(reporter, plan.image_len() as u64);
     warned::explain(reporter, origin, &warnings, "warning: ");
-    warned::explain_pages(reporter, &plan, asked.out);
     Ok(status)
 }
 

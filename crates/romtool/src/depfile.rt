@@ -1,8 +1,8 @@
 //! The rules for make that a build writes: the files on which an image depends, and a rule without
 //! prerequisites for each source, so that make does not stop if a source was removed.
 //!
-//! GNU make has no spelling of some names, and reads some as something else. A name is accepted only
-//! if it has permitted bytes. Other names are refused before anything is written.
+//! GNU make has no spelling of some names, and reads some as something else. A name is accepted
+//! only if it has permitted bytes. Other names are refused before anything is written.
 use crate::reporter::Reporter;
 use crate::target::{Target, is_part_of};
 use rom_commands::{Ending, Status};

@@ -78,6 +78,10 @@ pub const NO_PREFIX: &str =
 pub const MISREAD: &str =
     "it is valid, but Linux misreads what these lines name; see docs/LINUX.md";
 
+/// A program in a valid image is not, or not wholly, executed in place.
+pub const NOT_IN_PLACE: &str =
+    "Linux does not execute all of these programs in place; see docs/LINUX.md";
+
 /// A directory that is to be filled is not empty.
 pub const NOT_EMPTY: &str = "it is not empty";
 
