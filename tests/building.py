@@ -418,47 +418,6 @@ def all_missing_sources(binary):
         yield "%r" % (answer(plain),)
 
 
-# last pages
-
-
-def shared_pages(binary):
-    """`linux --advice` lists each file at a page whose last page is not its own, and what it reports separates them."""
-    sizes_of = {"a": 10, "b": 4095, "c": 5000, "d": 4092, "e": 100, "f": 4096, "g": 3000}
-    for name, size in sizes_of.items():
-        put(name, b"x" * size)
-    put("m", "".join("file /%s 0755 0 0 4096 %s\n" % (it, it) for it in sizes_of).encode() + b"dir /z 0755 0 0\npipe /z/p 0644 0 0\n")
-    for format in ("cramfs", "cramfs-be"):
-        run(binary, "build", format, "m", "out")
-        image = bytes_in("out")
-        want = []
-        for line in run(binary, "map", "out").stdout.decode().splitlines():
-            at, length, _, path = line.split()
-            end = int(at, 16) + int(length)
-            page_end = -(-end // 4096) * 4096
-            if any(image[end:page_end]):
-                want.append((path, page_end - int(at, 16) - 1))
-        plain, told = run(binary, "linux", "out"), run(binary, "linux", "--advice", "out")
-        lines = told.stdout[len(plain.stdout) :].decode().splitlines()
-        found = [(it.split()[1], int(it.split()[5])) for it in lines]
-        if not told.stdout.startswith(plain.stdout) or found != want or told.returncode != plain.returncode or not want:
-            yield "%s: %r and not %r" % (format, found, want)
-        said = run(binary, "--explain", "build", format, "m", "out")
-        if not any("copies this page: %d;" % len(want) in it for it in words(said)):
-            yield "%s: %r" % (format, words(said))
-        for path, length in want:
-            os.truncate(path[1:], length)
-        run(binary, "build", format, "m", "out")
-        told = run(binary, "linux", "--advice", "out")
-        if b"shared" in told.stdout:
-            yield "%s, padded: %r" % (format, told.stdout)
-        for name, size in sizes_of.items():
-            put(name, b"x" * size)
-    run(binary, "build", "romfs", "m", "out")
-    told = run(binary, "linux", "--advice", "out")
-    if answer(told) != (b"", b"", 0):
-        yield "romfs: %r" % (answer(told),)
-
-
 # words
 
 
@@ -492,7 +451,7 @@ def without_a_reader(binary):
 TESTS = (
     sizes, room, strict, foreseen, sources_in_a_folder, on_standard_input, rules, unsayable_rules, rules_that_fail,
     sources_that_are_removed,
-    rules_named_like_parts, all_bad_lines, all_missing_sources, shared_pages, environment, without_a_reader,
+    rules_named_like_parts, all_bad_lines, all_missing_sources, environment, without_a_reader,
 )  # fmt: skip
 
 

@@ -23,7 +23,7 @@ from harness import missing
 from romtool import answer, escaped, run
 
 PAGE = 4096
-SOURCE = "#include <stdio.h>\nint zeros[5000]; int one = 1;\nint main(void) { return printf(\"%d\", zeros[one]) < 0; }\n"
+SOURCE = '#include <stdio.h>\nint zeros[5000]; int one = 1;\nint main(void) { return printf("%d", zeros[one]) < 0; }\n'
 LIBRARY = "int twice(int x) { return 2 * x; }\n"
 # the text has the address of a datum, so that it is relocated
 RELOCATED = ".globl f\n.type f, @function\nf: movabs $g, %rax\nret\n.data\n.globl g\ng: .quad 1\n"
@@ -62,11 +62,17 @@ def pages(loads):
 
 
 def expected(image, files, base=0, is_romfs=False, no_mmu=False, advice=False, moved=()):
-    """The lines for files whose segments are known: (path, bytes, segments), and the status."""
+    """The lines for files whose segments are known: (path, bytes, segments), and the status. Other files have None."""
     lines, total = [], [0, 0, 0, 0]
     for path, held, loads in files:
-        at, (fixed, written, zeros, used) = image.find(held), pages(loads)
+        at = image.find(held)
         place, reason, shared = "0x%0*x" % (8 if base + at < 2**32 else 16, base + at), None, 0
+        if loads is None:
+            if advice and (base + at) % PAGE == 0:
+                front = image[at - PAGE + 1 : at]
+                lines.append("object %s %s %d" % (path, place, len(front) - len(front.rstrip(b"\0"))))
+            continue
+        fixed, written, zeros, used = pages(loads)
         if fixed and not no_mmu:
             reason = "romfs" if is_romfs else "unaligned" if (base + at) % PAGE else None
         if fixed and not reason and path in moved:
@@ -181,6 +187,7 @@ def programs(binary):
     """Compiled programs and libraries, in images of each format, with ALIGN 4,096 and with ALIGN 4."""
     names = compiled()
     files = [("/" + escaped(it.encode()), bytes_in(it), list(segments(it))) for it in names]
+    files = sorted([*files, *(("/" + it, bytes_in(it), None) for it in ("object.o", "script"))])
     for format in ("cramfs", "cramfs-be", "romfs"):
         for align in (PAGE, 4):
             put("m", manifest(["object.o", "script", *names], align if format != "romfs" else max(align, 16)).encode())
@@ -191,8 +198,8 @@ def programs(binary):
             yield from differs(binary, expected(image, files, 0, is_romfs, no_mmu=True), "xip", "--no-mmu", "image")
             want = expected(image, files, 0, is_romfs, advice=True)
             yield from differs(binary, want, "xip", "--advice", "image")
-            if align == PAGE and not is_romfs and want[2]:
-                yield "%s: not all are in place: %r" % (format, want)
+            if align == PAGE and (b"object " not in want[0] or not is_romfs and want[2]):
+                yield "%s: not all are in place, or no object is: %r" % (format, want)
 
 
 def relocations(binary):
@@ -304,6 +311,50 @@ def changed(binary):
             yield "%s, expected %s" % (one, other)
     if len(lines) != len(wanted) or got.returncode != 1 or got.stderr or at < 0:
         yield "%d lines and not %d, status %d" % (len(lines), len(wanted), got.returncode)
+
+
+def flat_line(path, held):
+    """The line of a file in the flat format without an MMU, at the address 0, and what it adds to the totals."""
+    if len(held) < 64 or held[:4] != b"bFLT":
+        return "", (0, 0, 0, 0)
+    rev, _, text, data, zeros = struct.unpack_from(">5I", held, 4)
+    flags, least = struct.unpack_from(">I", held, 36)[0], 1 << 28
+    if rev != 4 or not 64 <= text <= len(held) or not text <= data <= zeros or text >= least:
+        return "not %s 0 unloadable 0\n" % path, (1, 0, 0, 1)
+    if data - text >= least or zeros - data >= least:
+        return "not %s 0 unloadable 0\n" % path, (1, 0, 0, 1)
+    behind = (zeros - text + PAGE - 1) // PAGE - (data - text + PAGE - 1) // PAGE
+    placed, copied = (text + PAGE - 1) // PAGE, (data - text + PAGE - 1) // PAGE
+    if flags & 5:
+        placed, copied = 0, (data + PAGE - 1) // PAGE
+    return "xip %s 0 %d %d %d\n" % (path, placed, copied, behind), (1, placed, copied, 0)
+
+
+def flat(binary):
+    """Programs in the flat format: only without an MMU, in place unless they are read into memory."""
+    rng, files = random.Random(7), {}
+    for number in range(400):
+        words = [4, 64, 5000, 6000, 16000, 4096, 6000, 0, 0]
+        for _ in range(rng.randint(0, 2)):
+            words[rng.choice((0, 2, 3, 4, 8))] = rng.choice(
+                (0, 1, 2, 4, 5, 8, 63, 64, 4096, 4097, 6001, 9000, 2**28, 2**28 + 5000, 2**32 - 1)
+            )
+        held = b"bFLT" + struct.pack(">9I", *words) + bytes(24) + b"\x5a" * 5936
+        files["f%d" % number] = held[: rng.choice((6000, 6000, 6000, 63, 64, 5000, 5001, 3))]
+    for name, held in files.items():
+        put(name, held)
+    put("m", manifest(files, 16).encode())
+    text, total = "", (0, 0, 0, 0)
+    for name in sorted(files):
+        line, more = flat_line("/" + name, files[name])
+        text, total = text + line, tuple(map(sum, zip(total, more)))
+    text += "total %d %d %d %d\n" % total
+    for format in ("romfs", "cramfs", "cramfs-be"):
+        run(binary, "build", format, "m", "image")
+        yield from differs(binary, (b"total 0 0 0 0\n", b"", 0), "xip", "image")
+        told = run(binary, "xip", "--no-mmu", "image")
+        if re.sub(r"0x[0-9a-f]{8} ", "0 ", told.stdout.decode()) != text or (told.stderr, told.returncode) != (b"", 1):
+            yield "%s: %r, expected %s" % (format, answer(told), text)
 
 
 def scattered(binary):
@@ -427,7 +478,7 @@ def compiler():
 
 
 TESTS = (
-    rooms.needs(programs, compiler), rooms.needs(relocations, compiler), shared, changed, scattered, words,
+    rooms.needs(programs, compiler), rooms.needs(relocations, compiler), shared, changed, flat, scattered, words,
     refused_builds, rooms.needs(alignments, compiler),
 )  # fmt: skip
 
