@@ -2,8 +2,8 @@
 //! image and gives it the name of the file.
 //!
 //! Proved: at each moment the file is what it was or the image of the plan, whole, with the
-//! contents that the sources answered, and a crash at each moment leaves it so. It is the image only
-//! after the last check passed. At `Ok` it is the image, and durable if the directory can be
+//! contents that the sources answered, and a crash at each moment leaves it so. It is the image
+//! only after the last check passed. At `Ok` it is the image, and durable if the directory can be
 //! synchronized.
 #![tactic(auto)]
 

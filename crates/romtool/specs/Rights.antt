@@ -4,8 +4,8 @@ use Rattle.std.specs.Int.{bit_not}
 use Rattle.rom_tree.specs.declared.types.Stat.{Stat}
 use Rattle.romtool.specs.declared.making.Owner.{Owner}
 
--- The node's mode. Without `--owners` it has no set-user and set-group bits (3072), and no bits that
--- the process's mask removes from new files.
+-- The node's mode. Without `--owners` it has no set-user and set-group bits (3072), and no bits
+-- that the process's mask removes from new files.
 abbrev pub given_mode : Bool → ℕ → ℕ → ℕ
 given_mode owners masked mode =
     if owners then mode else bit_and (bit_and mode (bit_not w32 3072)) (bit_not w32 masked)
