@@ -232,14 +232,13 @@ def on_standard_input(binary):
 # what make reads
 
 ODD = (
-    "a", "a b", "a#b", "a$b", "a$$b", "a:b", "a%b", "a*b", "a?b", "a[b]c", "a|b", "a\\b", "a\\\\b", "a\\ b", "a\\#b", "a\\:b", "a'b",
-    'a"b', "(b)", "a)", "a<b>", "a&b", "a~b", "a,b", "a@b", "a{b}", "a`b", "\u00e9", "-a", "${x}", "a b  c", " a",
+    "a", "a b", "a#b", "a$b", "a$$b", "a:b", "a%b", "a*b", "a?b", "a[b]c", "[", "a\\b", "a\\\\b", "a\\ b", "a\\#b", "a\\:b", "a'b",
+    'a"b', "a~b", "a,b", "a@b", "a{b}", "a^b", "a+b", "\u00e9", "-a", "${x}", "a b  c", " a", "a-b_c.d", "a\\x2db",
 )  # fmt: skip
-UNSAYABLE = ("a\nb", "a;b", "~a", "a\\", "a(b", "a(b)", "$(x)", "a ", "a\t", "\ra", "\va", "\fa")
-# what make takes for something else in one place only
-UNSAYABLE_SOURCES = ("a\r", "a\v", "a\f", "=a", "+=a", "!=a", "!=id>found", "?=a", ":=a")
-DIRECTIVES = ("define", "export", "override", "private", "undefine", "unexport")
-SPECIAL_TARGETS = (".PHONY", ".SUFFIXES", ".DELETE_ON_ERROR")
+UNSAYABLE = (
+    "a\nb", "a;b", "~a", "a\\", "a(b", "a(b)", "$(x)", "a ", "a\t", "a\tb", "\ra", "\va", "\fa", "a\r", "a|b", "a=b", "=a", "!=a", "a&",
+    "a<b>", "a`b", "a!", "define", "export", ".PHONY", ".SUFFIXES",
+)  # fmt: skip
 
 
 def needs_make(test):
@@ -287,10 +286,10 @@ def rules(binary):
         if done.returncode or seen != [out, "m", "a"]:
             yield "%r: %r, %r: %r" % (out, answer(done), seen, said)
     done = run(binary, "build", "--depfile", "d", "romfs", "-", "out", input=b"file /a 0644 0 0 4 a\n")
-    if done.returncode or bytes_in("d") != b"out: \\\n  a\n":
+    if done.returncode or bytes_in("d") != b"out: \\\n  a\n\na:\n":
         yield "no manifest: %r" % bytes_in("d")
     done = run(binary, "build", "-C", ".", "--depfile", "d", "romfs", "m", "out")
-    if done.returncode or bytes_in("d") != b"out: \\\n  m \\\n  ./a\n":
+    if done.returncode or bytes_in("d") != b"out: \\\n  m \\\n  ./a\n\n./a:\n":
         yield "in a folder: %r" % bytes_in("d")
 
 
@@ -305,16 +304,22 @@ def unsayable_rules(binary):
         yield from refused(binary, (b"", b"file d\n", 3), "--depfile", "d", "romfs", "m", "out")
         put("m", b"file /a 0644 0 0 4 a\n")
         yield from refused(binary, (b"", b"file d\n", 3), "--depfile", "d", "romfs", "m", name)
-    for name in ("out=", *SPECIAL_TARGETS):
-        yield from refused(binary, (b"", b"file d\n", 3), "--depfile", "d", "romfs", "m", name)
-    for name in UNSAYABLE_SOURCES:
+
+
+@needs_make
+def sources_that_are_removed(binary):
+    """make does not stop if a source was removed together with its line."""
+    for name in ("a", "b c"):
         put(name, b"x")
-        put("m", b"file /a 0644 0 0 4 %s\n" % escaped(name).encode())
-        yield from refused(binary, (b"", b"file d\n", 3), "--depfile", "d", "romfs", "m", "out")
-    put("m", b"file /a 0644 0 0 4 a\n")
-    for name in DIRECTIVES:
-        put(name, b"file /a 0644 0 0 4 a\n")
-        yield from refused(binary, (b"", b"file d\n", 3), "--depfile", "d", "romfs", name, "out")
+    put("m", b"file /a 0644 0 0 4 a\nfile /b 0644 0 0 4 b%20c\n")
+    run(binary, "build", "--depfile", "d", "romfs", "m", "out")
+    put("Makefile", b"out: m\n\techo made\ninclude d\n")
+    for name, wanted in ((None, b""), ("b c", b"echo made\nmade\n"), ("a", b"echo made\nmade\n")):
+        if name:
+            os.remove(name)
+        told = subprocess.run(["make", "--", "out"], stdout=subprocess.PIPE, stderr=subprocess.PIPE, timeout=SECONDS)
+        if told.returncode or (name and told.stdout != wanted):
+            yield "%r: %r" % (name, answer(told))
 
 
 def rules_that_fail(binary):
@@ -333,7 +338,7 @@ def rules_that_fail(binary):
     yield from refused(binary, (b"", b"file none\n", 3), "--depfile", "d", "romfs", "gone", "out")
     yield from refused(binary, (b"", b"file /dev/full\n", 3), "--depfile", "d", "romfs", "m", "/dev/full")
     done = run(binary, "build", "--depfile", "d", "romfs", "m", "out")
-    if answer(done) != (b"ok 1024\n", b"", 0) or bytes_in("d") != b"out: \\\n  m \\\n  a\n":
+    if answer(done) != (b"ok 1024\n", b"", 0) or bytes_in("d") != b"out: \\\n  m \\\n  a\n\na:\n":
         yield "%r" % (answer(done),)
 
 
@@ -353,7 +358,11 @@ def rules_named_like_parts(binary):
     put(".x.romtool-0.part", b"old part")
     os.symlink(".x.romtool-0.part", "link")
     done = run(binary, "build", "--depfile", "link", "romfs", "m", "x")
-    if answer(done) != (b"ok 1024\n", b"", 0) or bytes_in(".x.romtool-0.part") != b"x: \\\n  m \\\n  a\n" or not os.path.islink("link"):
+    if (
+        answer(done) != (b"ok 1024\n", b"", 0)
+        or bytes_in(".x.romtool-0.part") != b"x: \\\n  m \\\n  a\n\na:\n"
+        or not os.path.islink("link")
+    ):
         yield "a link to a part: %r" % (answer(done),)
     for name in ("x.0.part", ".x.romtool-100.part", ".x.romtool-.part", ".x.romtool-a.part", ".x.romtool-0.parts", "d/.x.romtool-0.part"):
         os.makedirs("d", exist_ok=True)
@@ -409,47 +418,6 @@ def all_missing_sources(binary):
         yield "%r" % (answer(plain),)
 
 
-# last pages
-
-
-def shared_pages(binary):
-    """`linux --advice` lists each file at a page whose last page is not its own, and what it reports separates them."""
-    sizes_of = {"a": 10, "b": 4095, "c": 5000, "d": 4092, "e": 100, "f": 4096, "g": 3000}
-    for name, size in sizes_of.items():
-        put(name, b"x" * size)
-    put("m", "".join("file /%s 0755 0 0 4096 %s\n" % (it, it) for it in sizes_of).encode() + b"dir /z 0755 0 0\npipe /z/p 0644 0 0\n")
-    for format in ("cramfs", "cramfs-be"):
-        run(binary, "build", format, "m", "out")
-        image = bytes_in("out")
-        want = []
-        for line in run(binary, "map", "out").stdout.decode().splitlines():
-            at, length, _, path = line.split()
-            end = int(at, 16) + int(length)
-            page_end = -(-end // 4096) * 4096
-            if any(image[end:page_end]):
-                want.append((path, page_end - int(at, 16) - 1))
-        plain, told = run(binary, "linux", "out"), run(binary, "linux", "--advice", "out")
-        lines = told.stdout[len(plain.stdout) :].decode().splitlines()
-        found = [(it.split()[1], int(it.split()[5])) for it in lines]
-        if not told.stdout.startswith(plain.stdout) or found != want or told.returncode != plain.returncode or not want:
-            yield "%s: %r and not %r" % (format, found, want)
-        said = run(binary, "--explain", "build", format, "m", "out")
-        if not any("copies this page: %d;" % len(want) in it for it in words(said)):
-            yield "%s: %r" % (format, words(said))
-        for path, length in want:
-            os.truncate(path[1:], length)
-        run(binary, "build", format, "m", "out")
-        told = run(binary, "linux", "--advice", "out")
-        if b"shared" in told.stdout:
-            yield "%s, padded: %r" % (format, told.stdout)
-        for name, size in sizes_of.items():
-            put(name, b"x" * size)
-    run(binary, "build", "romfs", "m", "out")
-    told = run(binary, "linux", "--advice", "out")
-    if answer(told) != (b"", b"", 0):
-        yield "romfs: %r" % (answer(told),)
-
-
 # words
 
 
@@ -476,13 +444,14 @@ def without_a_reader(binary):
             yield "%r: %r" % (asked, lines)
     with open("/dev/full", "wb") as full:
         told = subprocess.run([binary, "--explain", "list", "image"], stdout=full, stderr=subprocess.PIPE, timeout=SECONDS)
-    if words(told) != ["stdout: not everything could be written to standard output"]:
+    if words(told) != ["stdout: not everything could be written to standard output: No space left on device"]:
         yield "a full device: %r" % words(told)
 
 
 TESTS = (
     sizes, room, strict, foreseen, sources_in_a_folder, on_standard_input, rules, unsayable_rules, rules_that_fail,
-    rules_named_like_parts, all_bad_lines, all_missing_sources, shared_pages, environment, without_a_reader,
+    sources_that_are_removed,
+    rules_named_like_parts, all_bad_lines, all_missing_sources, environment, without_a_reader,
 )  # fmt: skip
 
 

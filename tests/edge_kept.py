@@ -118,6 +118,7 @@ def printing(binary):
     yield ["which", "image", "0"], 0
     yield ["which", "image", "ffffffff"], 1
     yield ["linux", "image"], 0
+    yield ["xip", "image"], 0
     yield ["digest", "image"], 0
     yield ["digest", "--image", "image"], 0
     yield ["verify", "image", "image"], 0

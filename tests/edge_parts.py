@@ -14,13 +14,14 @@ import os
 import stat
 import subprocess
 import sys
-import threading
 
 import rooms
 import traced
 from edge import held_up, hello, leave, part, parts, wanted
 from files import bytes_in, put, wait_until
+from harness import missing
 from romtool import answer, run
+from rooms import needs_root
 from traced import needs_strace
 
 
@@ -142,31 +143,29 @@ def part_of_a_killed_build(binary):
             yield "%d: %r is left" % (number, left)
 
 
+@needs_strace
 def manifests_that_change(binary):
-    """A manifest that is rewritten while an image is built of it is never taken for a shorter one."""
-    put("s", b"x")
-    lines = ["file /f%04d 0644 0 0 4 s\n" % number for number in range(3000)]
-    stop = threading.Event()
+    """A manifest that is written to, or replaced, before the image is complete ends the build, also if it was read whole."""
+    hello()
 
-    def rewrite():
-        while not stop.is_set():
-            with open("m", "w", encoding="ascii") as file:
-                for line in lines:
-                    file.write(line)
-                    file.flush()
+    def append():
+        with open("m", "ab") as file:
+            file.write(b"file /b 0644 0 0 4 a\n")
 
-    put("m", "".join(lines).encode())
-    whole = run(binary, "build", "romfs", "m", "whole").stdout
-    writer = threading.Thread(target=rewrite)
-    writer.start()
-    try:
-        for number in range(40):
-            done = run(binary, "build", "romfs", "m", "out")
-            if answer(done) not in ((whole, b"", 0), (b"", b"changed\n", 3)):
-                yield "%d: %r" % (number, answer(done))
-    finally:
-        stop.set()
-        writer.join()
+    def replace():
+        put("new", bytes_in("m"))
+        os.rename("new", "m")
+
+    def prepare(change):
+        hello()
+        put("out", b"as it was")
+        return change
+
+    for change in (append, replace):
+        for when in (3, 5):  # the first two calls may be the loader's
+            told = held_up(binary, "romfs", "pread64", when, lambda change=change: prepare(change))
+            if told != (b"", b"changed\n", 3) or bytes_in("out") != b"as it was" or parts():
+                yield "%s at read %d: %r, %r" % (change.__name__, when, told, parts())
 
 
 @needs_strace
@@ -191,9 +190,39 @@ def reads_that_end_early(binary):
                 break
 
 
+@needs_root
+def device_that_is_mounted(binary):
+    """A block device with a mounted file system is refused as OUT, and is written after it was unmounted."""
+    hello()
+    put("disk", bytes(1 << 20))
+    if missing("losetup", "mkfs.ext2", "mount", "umount") or subprocess.run(["mkfs.ext2", "-q", "-F", "disk"]).returncode:
+        yield None
+        return
+    looped = subprocess.run(["losetup", "--find", "--show", "disk"], stdout=subprocess.PIPE, stderr=subprocess.DEVNULL, text=True)
+    if looped.returncode:
+        yield None
+        return
+    device = looped.stdout.strip()
+    try:
+        os.mkdir("at")
+        if subprocess.run(["mount", device, "at"], stderr=subprocess.DEVNULL).returncode:
+            yield None
+            return
+        done = run(binary, "--explain", "build", "romfs", "m", device)
+        words = "file %s\nromtool: %s: a file system on this device is mounted: unmount it first\n" % (device, device)
+        if answer(done) != (b"", words.encode(), 3) or not os.path.isdir("at/lost+found"):
+            yield "mounted: %r" % (answer(done),)
+        subprocess.run(["umount", "at"], check=True)
+        done = run(binary, "build", "romfs", "m", device)
+        if answer(done) != (b"ok 1024\n", b"", 0) or bytes_in("disk")[:1024] != wanted(binary):
+            yield "unmounted: %r" % (answer(done),)
+    finally:
+        subprocess.run(["losetup", "--detach", device], check=True)
+
+
 TESTS = [
     part_of_another_file, parts_that_are_held, parts_that_are_left, inputs_with_the_names_of_parts, part_of_a_killed_build,
-    manifests_that_change, reads_that_end_early,
+    manifests_that_change, reads_that_end_early, device_that_is_mounted,
 ]  # fmt: skip
 
 

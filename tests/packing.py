@@ -26,24 +26,10 @@ import time
 
 from harness import SECONDS, Counts, parser, program_of
 from rooms import in_room
-from scan_all import FORMATS, IS_ROOT, Told, Tester, escaped, make_by_chance, put
+from scan_all import FORMATS, IS_ROOT, Told, Tester, elf, escaped, is_program, make_by_chance, put
 
 ALIGNS = [4, 8, 64, 4096, 65536]
 TAR = shutil.which("tar")
-
-
-def elf(kind, data=1, length=64):
-    """The first bytes of an ELF file of a type, in an order of bytes."""
-    head = b"\x7fELF\x02" + bytes([data]) + b"\x01" + bytes(9)
-    head += kind.to_bytes(2, "little" if data == 1 else "big")
-    return (head + bytes(length))[:length]
-
-
-def is_program(held):
-    """Whether a file is an executable or a shared object."""
-    if held[:4] != b"\x7fELF" or len(held) < 18 or held[5] not in (1, 2):
-        return False
-    return int.from_bytes(held[16:18], "little" if held[5] == 1 else "big") in (2, 3)
 
 
 def expression(pattern):
@@ -145,11 +131,8 @@ class Merged:
         for pattern, number in reversed(rules):
             if is_matched(pattern, path):
                 return number
-        told = self.of[path]
-        if stat.S_IMODE(told.of[path].st_mode) & 0o111:
-            return align
-        with open(told.top + path, "rb") as file:
-            return align if is_program(file.read(18)) else 4
+        with open(self.of[path].top + path, "rb") as file:
+            return align if is_program(file.read()) else 4
 
     def line(self, path, wanted, owner, align, rules):
         """The line of a path."""
@@ -185,14 +168,17 @@ def kinds_agree(tops):
 
 
 def make_libraries(top):
-    """Makes a directory with ELF files of each kind, with x bits and without."""
+    """Makes a directory with ELF files of each kind and with each kind of segment, with x bits and without."""
     os.makedirs(f"{top}/lib")
     for kind in range(6):
         for data in range(4):
             put(f"{top}/lib/type-{kind}-{data}", elf(kind, data), 0o644)
+    for flags in range(8):
+        put(f"{top}/lib/flags-{flags}", elf(2, flags=flags), 0o644)
     put(f"{top}/lib/so.x", elf(3), 0o755)
-    put(f"{top}/lib/short", elf(3)[:17], 0o644)
-    put(f"{top}/lib/exact", elf(3, 1, 18), 0o644)
+    put(f"{top}/lib/short", elf(3)[:83], 0o644)
+    put(f"{top}/lib/exact", elf(3, 1, 84), 0o644)
+    put(f"{top}/lib/flat", b"bFLT", 0o644)
     put(f"{top}/lib/none", b"", 0o644)
     put(f"{top}/lib/no elf", b"\x7fELG" + elf(3)[4:], 0o644)
     put(f"{top}/lib/script", b"#!/bin/sh\n", 0o755)

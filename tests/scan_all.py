@@ -17,6 +17,7 @@ import random
 import shutil
 import socket
 import stat
+import struct
 import sys
 import tempfile
 
@@ -24,6 +25,26 @@ from files import bytes_in, put, short_path
 from harness import Counts, add_seeds, parser, program_of
 from romtool import FORMATS, KINDS, ROMFS_MODES, WORDS, entries_of, escaped, run, without_number
 from rooms import IS_ROOT
+
+
+def elf(kind, data=1, length=96, flags=5):
+    """An ELF file of 32 bits of a type, in an order of bytes, whose bytes are one segment with these flags."""
+    order = "<" if data == 1 else ">"
+    head = struct.pack("4sBBB9x", b"\x7fELF", 1, data, 1)
+    head += struct.pack(order + "HHIIIIIHHHHHH", kind, 40, 1, 0, 52, 0, 0, 52, 32, 1, 0, 0, 0)
+    head += struct.pack(order + "8I", 1, 0, 0, 0, length, length, flags, 4096)
+    return (head + bytes(length))[:length]
+
+
+def is_program(held):
+    """Whether a file is executed in place: one of the flat format, or what `elf` makes, if it has a segment that cannot be written."""
+    if held[:4] == b"bFLT":
+        return True
+    if held[:5] != b"\x7fELF\x01" or len(held) < 84 or held[5] not in (1, 2):
+        return False
+    order = "<" if held[5] == 1 else ">"
+    kind, filed, flags = (struct.unpack_from(order + form, held, at)[0] for form, at in (("H", 16), ("I", 68), ("I", 76)))
+    return kind in (2, 3) and filed > 0 and not flags & 2
 
 
 class Told:
@@ -77,13 +98,17 @@ class Told:
         if self.is_further(path) and kind == "f":
             return "same %s %s" % (owned, escaped(self.first[self.inode(path)]))
         if kind == "f":
-            is_run = stat.S_IMODE(self.of[path].st_mode) & 0o111
-            return "file %s %d %s" % (owned, align if is_run else 4, escaped(self.top + path))
+            return "file %s %d %s" % (owned, align if self.is_program(path) else 4, escaped(self.top + path))
         if kind == "l":
             return "slink %s %s" % (owned, escaped(os.readlink(self.base + path)))
         if kind in "bc":
             return "nod %s %s %d %d" % (owned, kind, *self.device(path))
         return "%s %s" % (WORDS[kind], owned)
+
+    def is_program(self, path):
+        """Whether the file of a path is executed in place."""
+        with open(self.base + path, "rb") as file:
+            return is_program(file.read(1 << 16))
 
     def manifest(self, wanted, align):
         """Returns the manifest that a scan prints."""
@@ -184,8 +209,8 @@ class Tester:
         self.is_same(f"{name}: contents", self.run(["serve", "image"], given)[0].splitlines(), wanted)
 
     def aligned(self, name, told, align):
-        """Checks that executable files are at multiples of the alignment."""
-        paths = [it for it in told.regular() if told.of[it].st_mode & 0o111 and told.of[it].st_size]
+        """Checks that programs are at multiples of the alignment."""
+        paths = [it for it in told.regular() if told.is_program(it)]
         given = "".join("open %s\nmap 0 0 1\nclose 0\n" % escaped(path) for path in paths).encode()
         replies = self.run(["serve", "image"], given)[0].splitlines()[1::3]
         rests = [int(reply.split(" ")[1]) % align if reply.startswith("ok ") else reply for reply in replies]
@@ -197,7 +222,8 @@ def make_all_kinds(top):
     os.makedirs(f"{top}/bin")
     os.makedirs(f"{top}/lib/a b/c%d")
     os.makedirs(f"{top}/empty")
-    put(f"{top}/bin/sh", b"#!" * 3000, 0o755)
+    put(f"{top}/bin/sh", elf(2, length=6000), 0o755)
+    put(f"{top}/bin/script", b"#!" * 3000, 0o755)
     os.link(f"{top}/bin/sh", f"{top}/lib/a b/sh again")
     os.link(f"{top}/bin/sh", f"{top}/a-first-name")
     put(f"{top}/no bytes")
@@ -244,7 +270,8 @@ def make_by_chance(top, chance):
             os.mkdir(path)
             folders.append(path)
         elif kind == "f":
-            put(path, bytes(chance.choice([0, 1, 5, 4096, 5000])), chance.randint(0, 0o7777) | 0o400 * (not IS_ROOT))
+            held = chance.choice([bytes(chance.choice([0, 1, 5, 4096, 5000])), elf(3, chance.choice([1, 2])), b"bFLT"])
+            put(path, held, chance.randint(0, 0o7777) | 0o400 * (not IS_ROOT))
         elif kind == "l":
             os.symlink(chance.choice(["x", "../y z", "%/\u00e9"]), path)
         elif kind == "p":

@@ -1,5 +1,5 @@
 -- The lines of a manifest of a directory as it is. (This project's own.)
-use Rattle.std.specs.Prelude.{ℕ, ◌==◌, ◌&&◌, ◌||◌, Bool, true, false, if◌then◌else◌}
+use Rattle.std.specs.Prelude.{ℕ, ◌==◌, ◌&&◌, Bool, true, false, if◌then◌else◌}
 use Rattle.std.specs.Prelude.{List, [], ◌∷◌, ◌++◌}
 use Rattle.std.specs.Prelude.{drop, find, Option, Some, None, string_bytes}
 use Rattle.manifest.specs.declared.line.Line.{Line}
@@ -8,7 +8,7 @@ use Rattle.manifest.specs.declared.line.Word.TheVariants.{Dir, File, Slink, Bloc
 use Rattle.manifest.specs.declared.line.Word.TheVariants.{Socket, Hard, Same}
 use Rattle.formats.specs.declared.format.Format.{Format}
 use Rattle.formats.specs.declared.format.Format.TheVariants.{Cramfs, CramfsBig}
-use Rattle.build_commands.specs.Nearest.{is_runnable, nearest_in}
+use Rattle.build_commands.specs.Nearest.{nearest_in}
 use Rattle.build_commands.specs.declared.inventory.FileKind.{FileKind}
 use Rattle.build_commands.specs.declared.inventory.FileKind.TheVariants as kind
 use Rattle.build_commands.specs.declared.inventory.NamedFile.{NamedFile}
@@ -23,10 +23,10 @@ or_root (b ∷ bs) = b ∷ bs
 abbrev pub path_behind : ℕ → List ℕ → List ℕ
 path_behind front place = or_root (drop front place)
 
--- the alignment of a regular file: the one that was asked for, if the owner, the group or others
--- may execute it or it is a program; otherwise the usual one
-abbrev pub aligned : ℕ → Bool → ℕ → ℕ
-aligned align is_program mode = if is_runnable mode || is_program then align else 4
+-- the alignment of a regular file: the one that was asked for, if it is executed in place;
+-- otherwise the usual one
+abbrev pub aligned : ℕ → Bool → ℕ
+aligned align is_program = if is_program then align else 4
 
 -- the line of a directory with the path, the mode and the owner of a file
 abbrev pub plain_line : NamedFile → Line

@@ -1,5 +1,6 @@
 -- What is printed of a build. (This project's own.)
 use Rattle.std.specs.Prelude.{ℕ, List, ◌++◌, codes, decimal}
+use Rattle.rom_fields.specs.Texts.{escaped}
 use Rattle.layout_plan.specs.Errors.{name_of_refusal}
 use Rattle.manifest.specs.Errors.{name_of_fault}
 use Rattle.build_commands.specs.Warnings.{name_of_warning}
@@ -26,6 +27,13 @@ misfit_line line number = refusal_line (codes "plan") line number (name_of_refus
 -- for an image that would be too long: size LENGTH MOST, and a line feed
 unfoldable pub size_line : ℕ → ℕ → List ℕ
 size_line len most = codes "size " ++ (decimal len ++ (codes " " ++ (decimal most ++ codes "\n")))
+
+-- for an image with a program that would not be executed in place: xip LINE REASON PATH, and a line
+-- feed
+unfoldable pub xip_line : ℕ → List ℕ → List ℕ → List ℕ
+xip_line line reason path =
+    codes "xip " ++ (decimal line ++ (codes " " ++ (reason ++ (codes " " ++ (escaped path
+    ++ codes "\n")))))
 
 -- for a build that refuses what it would otherwise only warn of: the line of the least warning, or
 -- 0 for the whole, and the warning

@@ -1,12 +1,12 @@
 //! Prints the line of a build, and flushes it.
 ghost use Rattle.std.specs.Prelude.{◌≡◌, OnOk, decimal};
 ghost use Rattle.build_commands.specs.Printed.{built_line, manifest_line, misfit_line};
-ghost use Rattle.build_commands.specs.Printed.{refusal_line, size_line, strict_line};
+ghost use Rattle.build_commands.specs.Printed.{refusal_line, size_line, strict_line, xip_line};
 ghost use Rattle.rom_fields.specs.Failures.{Counts, one_more};
 ghost use Rattle.rom_fields.specs.Written.{WritesText};
 
 use crate::warnings::warning_name;
-use lines::Part::{Number, Text};
+use lines::Part::{Name, Number, Text};
 use lines::print_line;
 use rom_fields::{ByteWrite, Failed};
 
@@ -128,4 +128,36 @@ pub fn print_strict<W: ByteWrite>(w: &mut W, line: u64, number: u32) -> Result<(
 {
     let name = warning_name(number);
     print_refusal(w, b"strict", line, number, name.as_bytes())
+}
+
+/// Writes `xip LINE REASON PATH` for an image with a program that would not be executed in place,
+/// and flushes it: the line of the manifest that names it, why, and its path in the image.
+///
+/// # Errors
+///
+/// `Failed` if a write or the flush failed. Then a prefix of the line was written.
+#[tactic(auto, unfolding(lines::specs::Lines::line_text, lines::specs::Lines::part_text, crate::specs::Printed::xip_line))]
+pub fn print_xip<'x, W: ByteWrite>(
+    w: &mut W,
+    line: u64,
+    reason: &'x [u8],
+    path: &'x [u8],
+) -> Result<(), Failed>
+    ensures text { WritesText (W.output w.old).contents (W.output w.new).contents result
+        (xip_line line reason.now path.now) }
+    ensures count { Counts (W.output w.old).failures (W.output w.new).failures result }
+    ensures flushed { OnOk result ((W.output w.new).flushes ≡ one_more (W.output w.old).flushes) }
+{
+    print_line(
+        w,
+        &[
+            Text(b"xip "),
+            Number(line),
+            Text(b" "),
+            Text(reason),
+            Text(b" "),
+            Name(path),
+            Text(b"\n"),
+        ],
+    )
 }

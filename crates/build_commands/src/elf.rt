@@ -1,37 +1,24 @@
-//! ELF executables and shared objects, by their first bytes.
+//! Programs and libraries that Linux can execute in place.
 ghost use Rattle.std.specs.Prelude.{◌≡◌};
-ghost use Rattle.build_commands.specs.Elf.{has_magic, is_executed, is_program, is_program_type};
+ghost use Rattle.build_commands.specs.Elf.{is_flat, needs_pages};
 
-/// The number of bytes at the front of a file that show whether it is a program.
-pub const HEAD_LEN: usize = 18;
+use elf_format::has_fixed;
 
-/// Whether the bytes begin as each ELF file does.
-fn has_magic(head: &[u8; HEAD_LEN]) -> bool
-    ensures { result ≡ has_magic head.now }
+/// The most bytes at the front of a file that are read to see whether it is such a program.
+pub const HEAD_LEN: u64 = 1 << 24;
+
+/// Whether the bytes begin as a file in the flat format of kernels without an MMU.
+fn is_flat(b: &[u8]) -> bool
+    ensures { result ≡ is_flat b.now }
 {
-    head[0] == 0x7f && head[1] == b'E' && head[2] == b'L' && head[3] == b'F'
+    b.len() >= 4 && b[0] == b'b' && b[1] == b'F' && b[2] == b'L' && b[3] == b'T'
 }
 
-/// Whether this type is that of an executable or a shared object.
-fn is_executed(kind: u16) -> bool
-    ensures { result ≡ is_executed kind }
+/// Returns whether a file of these bytes needs pages of its own to be executed in place: it is an
+/// ELF program or library with a segment that cannot be written, or a program in the flat format.
+/// The bytes may be a front of the file with all program headers.
+pub fn needs_pages(b: &[u8]) -> bool
+    ensures { result ≡ needs_pages b.now }
 {
-    kind == 2 || kind == 3
-}
-
-/// Whether the type, in the byte order that the file states, is that of an executable or a shared
-/// object.
-fn is_program_type(head: &[u8; HEAD_LEN]) -> bool
-    ensures { result ≡ is_program_type head.now }
-{
-    let (first, second) = (u16::from(head[16]), u16::from(head[17]));
-    head[5] == 1 && is_executed(first + 256 * second)
-        || head[5] == 2 && is_executed(256 * first + second)
-}
-
-/// Returns whether a file that begins with these bytes is an ELF executable or shared object.
-pub fn is_program(head: &[u8; HEAD_LEN]) -> bool
-    ensures { result ≡ is_program head.now }
-{
-    has_magic(head) && is_program_type(head)
+    is_flat(b) || has_fixed(b)
 }

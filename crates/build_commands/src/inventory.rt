@@ -9,7 +9,7 @@ ghost use Rattle.manifest.specs.Entries.{line_of};
 ghost use Rattle.rom_fields.specs.Failures.{Counts, one_more};
 ghost use Rattle.rom_fields.specs.Written.{Puts, WritesText, sink};
 
-use crate::nearest::{is_executable, nearest};
+use crate::nearest::nearest;
 use formats::Format;
 use manifest::{Entry, Word, put_lines, put_volume};
 use rom_fields::{ByteWrite, Failed, OutOfMemory};
@@ -89,16 +89,12 @@ fn path_of(front: usize, place: &str) -> &[u8]
     path
 }
 
-/// Returns the alignment of a regular file of this mode, in bytes: the one that was asked for if
-/// the owner, the group or others may execute it or it is a program; otherwise the usual one.
-pub fn align_of(mode: u32, is_program: bool, align: u32) -> u32
-    ensures { result ≡ aligned align is_program mode }
+/// Returns the alignment of a regular file, in bytes: the one that was asked for if it is a program
+/// that is executed in place, and otherwise the usual one.
+pub fn align_of(is_program: bool, align: u32) -> u32
+    ensures { result ≡ aligned align is_program }
 {
-    if is_executable(mode) || is_program {
-        align
-    } else {
-        USUAL_ALIGN
-    }
+    if is_program { align } else { USUAL_ALIGN }
 }
 
 /// The line of a directory with the path, the mode and the owner of a file.

@@ -13,6 +13,8 @@ mod nearest;
 mod scanning;
 mod warnings;
 
-pub use building::{print_bad_manifest, print_built, print_misfit, print_size, print_strict};
+pub use building::{
+    print_bad_manifest, print_built, print_misfit, print_size, print_strict, print_xip,
+};
 pub use scanning::{Found, put_scan};
 pub use warnings::warning_name;

@@ -1,6 +1,6 @@
 //! What Linux maps of the files of a built image.
-ghost use Rattle.std.specs.Prelude.{◌≡◌, ◌<◌, ◌^◌, ℕ, List, Ok, Option, length};
-ghost use Rattle.built_in_place.specs.Files.{AreInPlace, HoldsImage};
+ghost use Rattle.std.specs.Prelude.{◌≡◌, ℕ, List, Ok, Option};
+ghost use Rattle.built_in_place.specs.Files.{AreInPlace, AreMappedWhole, HoldsImage};
 ghost use Rattle.cramfs_format.specs.declared.order.Order.{Order};
 ghost use Rattle.cramfs_mapping.specs.Physmem.{Flash};
 ghost use Rattle.formats.specs.Format.{cramfs};
@@ -22,22 +22,44 @@ pub fn built_is_in_place()
         → manifest_of text ≡ Ok m → HasTree bytes usual t → HoldsImage f bytes
         → AreInPlace o f t m }
 {
+    image_build::laws::built_is_accepted();
     image_build::laws::built_is_placed();
     image_check::laws::one_tree();
     manifest_layout::laws::layout_is_meant();
     cramfs_mapping::laws::aligned_is_in_place();
 }
 
-/// Shows the same for an image that was streamed, whatever the sources are.
+/// Shows that without an MMU each file of a built cramfs image is mapped whole by Linux, whatever
+/// its ALIGN, if the image is at the front of the flash.
+pub fn built_is_mapped_whole()
+    ensures { (o : Order) (text : List ℕ) (contents : List (List ℕ)) (bytes : List ℕ)
+        (m : ManifestLines) (t : Node) (f : Flash) → Builds (cramfs o) text contents (Ok bytes)
+        → manifest_of text ≡ Ok m → HasTree bytes usual t → HoldsImage f bytes
+        → AreMappedWhole o f t m }
+{
+    image_build::laws::built_is_accepted();
+    image_build::laws::built_is_placed();
+    image_check::laws::one_tree();
+    manifest_layout::laws::layout_is_meant();
+    cramfs_mapping::laws::run_is_whole();
+}
+
+/// Shows both for an image that was streamed, whatever the sources are.
 pub fn streamed_is_in_place()
-    ensures { (o : Order) (text : List ℕ) (p : Planned) (known : Option (List (List ℕ)))
+    ensures in_place { (o : Order) (text : List ℕ) (p : Planned) (known : Option (List (List ℕ)))
         (old new : Option (List ℕ)) (t : Node) (f : Flash) → (is : IsPlanOfText text p)
         → p.format ≡ cramfs o
         → (w : IsWritten known (form_in p.format p) (stored_in p.format) old new)
-        → length (image_with p w.rest) < 2 ^ 32 → HasTree (image_with p w.rest) usual t
+        → HasTree (image_with p w.rest) usual t
         → HoldsImage f (image_with p w.rest) → AreInPlace o f t is.lines }
+    ensures whole { (o : Order) (text : List ℕ) (p : Planned) (known : Option (List (List ℕ)))
+        (old new : Option (List ℕ)) (t : Node) (f : Flash) → (is : IsPlanOfText text p)
+        → p.format ≡ cramfs o
+        → (w : IsWritten known (form_in p.format p) (stored_in p.format) old new)
+        → HasTree (image_with p w.rest) usual t → HoldsImage f (image_with p w.rest)
+        → AreMappedWhole o f t is.lines }
 {
-    image_build::laws::streamed_is_placed();
-    image_check::laws::one_tree();
-    cramfs_mapping::laws::aligned_is_in_place();
+    image_build::laws::streamed_is_accepted();
+    built_is_in_place();
+    built_is_mapped_whole();
 }

@@ -81,7 +81,9 @@ reading_shapes =
     ∷ sub (codes "verify") (value_rule (codes "image") ∷ value_rule (codes "dump")
     ∷ option_rule (codes "offset") ∷ [])
     ∷ sub (codes "cat") (value_rule (codes "image") ∷ value_rule (codes "path") ∷ [])
-    ∷ sub (codes "linux") (value_rule (codes "image") ∷ flag_rule (codes "advice") ∷ [])
+    ∷ sub (codes "linux") (value_rule (codes "image") ∷ [])
+    ∷ sub (codes "xip") (value_rule (codes "image") ∷ option_rule (codes "base")
+    ∷ flag_rule (codes "no-mmu") ∷ flag_rule (codes "advice") ∷ [])
     ∷ []
 
 -- the others
@@ -91,7 +93,8 @@ other_shapes =
     ∷ sub (codes "space") (few_rule (codes "image") ∷ [])
     ∷ sub (codes "build") (value_rule (codes "format") ∷ value_rule (codes "manifest")
     ∷ value_rule (codes "out") ∷ flag_rule (codes "no-follow") ∷ flag_rule (codes "strict")
-    ∷ option_rule (codes "max-size") ∷ lettered_rule 67 (codes "directory")
+    ∷ flag_rule (codes "xip") ∷ option_rule (codes "max-size")
+    ∷ lettered_rule 67 (codes "directory")
     ∷ option_rule (codes "depfile") ∷ [])
     ∷ sub (codes "scan") (several_rule (codes "folder") ∷ flag_rule (codes "all")
     ∷ option_rule (codes "for") ∷ repeated_rule (codes "align") ∷ option_rule (codes "owner")

@@ -12,8 +12,8 @@ ghost use Rattle.command_line.specs.declared.request.Request.TheVariants as requ
 use crate::error::{WordsError, Wrong};
 use crate::numbers::{address_named, align_named, align_rule_named, owner_named, size_named};
 use crate::request::{
-    AlignRule, Build, Cat, Diff, Digest, Extract, Info, Linux, Map, MapForm, Owner, Request, Scan,
-    ScanAll, Verify, Which,
+    AlignRule, Build, Cat, Diff, Digest, Extract, Info, Map, MapForm, Owner, Request, Scan,
+    ScanAll, Verify, Which, Xip,
 };
 use arrayvec::ArrayVec;
 use clap::ArgMatches;
@@ -220,13 +220,18 @@ fn cat_of<'a>(values: &ArgMatches<'a>) -> Result<Cat<'a>, WordsError<'a>>
     Ok(Cat { image, path })
 }
 
-/// Returns the image of which is asked what Linux misreads in it.
-fn linux_of<'a>(values: &ArgMatches<'a>) -> Result<Linux<'a>, WordsError<'a>>
-    ensures { IfOk result (λ l. IsAskedBy (rows_of (found_of values.now)) (request.Linux l)) }
+/// Returns the image of which is asked which programs are executed in place, and how.
+fn xip_of<'a>(values: &ArgMatches<'a>) -> Result<Xip<'a>, WordsError<'a>>
+    ensures { IfOk result (λ x. IsAskedBy (rows_of (found_of values.now)) (request.Xip x)) }
 {
     let image = wanted(values, "image")?;
-    let advice = is_given(values, "advice");
-    Ok(Linux { image, advice })
+    let base = base_of(values)?;
+    Ok(Xip {
+        image,
+        base,
+        no_mmu: is_given(values, "no-mmu"),
+        advice: is_given(values, "advice"),
+    })
 }
 
 /// Returns the format that a word names.
@@ -253,6 +258,7 @@ fn build_of<'a>(values: &ArgMatches<'a>) -> Result<Build<'a>, WordsError<'a>>
         out,
         no_follow: is_given(values, "no-follow"),
         strict: is_given(values, "strict"),
+        xip: is_given(values, "xip"),
         max_size,
         sources: value_of(values, "directory"),
         depfile: value_of(values, "depfile"),
@@ -467,7 +473,8 @@ fn reading<'a>(
         "digest" => Request::Digest(digest_of(values)?),
         "verify" => Request::Verify(verify_of(values)?),
         "cat" => Request::Cat(cat_of(values)?),
-        "linux" => Request::Linux(linux_of(values)?),
+        "linux" => Request::Linux(wanted(values, "image")?),
+        "xip" => Request::Xip(xip_of(values)?),
         _ => return Ok(None),
     }))
 }

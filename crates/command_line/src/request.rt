@@ -27,8 +27,10 @@ pub enum Request<'a> {
     Verify(Verify<'a>),
     /// To print the bytes of a file in an image.
     Cat(Cat<'a>),
-    /// To print what Linux misreads in an image.
-    Linux(Linux<'a>),
+    /// To print what Linux misreads in the image in this file.
+    Linux(&'a str),
+    /// To print which programs of an image Linux executes in place.
+    Xip(Xip<'a>),
     /// To serve the image in this file.
     Serve(&'a str),
     /// To serve the images in these files, one to eight.
@@ -112,11 +114,14 @@ pub struct Cat<'a> {
     pub path: &'a str,
 }
 
-/// What Linux misreads in an image.
+/// Which programs Linux executes in place, in an image whose first byte has this address.
 #[derive(Clone, Copy)]
-pub struct Linux<'a> {
+pub struct Xip<'a> {
     pub image: &'a str,
-    /// Whether the files of which Linux does not map the last page are printed as well.
+    pub base: u64,
+    /// Whether the kernel has no MMU.
+    pub no_mmu: bool,
+    /// Whether advice is printed as well.
     pub advice: bool,
 }
 
@@ -131,6 +136,8 @@ pub struct Build<'a> {
     /// Whether the build is refused if Linux would misread the image, or if the manifest has no
     /// lines.
     pub strict: bool,
+    /// Whether the build is refused if a program would not be executed in place.
+    pub xip: bool,
     /// The most bytes that the image may have, if it is given.
     pub max_size: Option<u64>,
     /// The directory from which the sources' names start, if one is given.

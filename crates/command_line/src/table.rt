@@ -157,11 +157,18 @@ const PATH: Word<'static> = Word {
     help: "The path of the file in the image, from its root",
 };
 
+const NO_MMU: Word<'static> = Word {
+    kind: Kind::Flag,
+    name: "no-mmu",
+    shown: "",
+    help: "Reports what a kernel without an MMU executes in place",
+};
+
 const ADVICE: Word<'static> = Word {
     kind: Kind::Flag,
     name: "advice",
     shown: "",
-    help: "Also prints which files of cramfs share their last page with something else",
+    help: "Also prints which programs have more than a page behind their last segment",
 };
 
 const IMAGES: Word<'static> = Word {
@@ -204,6 +211,13 @@ const STRICT_BUILD: Word<'static> = Word {
     name: "strict",
     shown: "",
     help: "Refuses what Linux would misread, and an empty manifest",
+};
+
+const XIP_BUILD: Word<'static> = Word {
+    kind: Kind::Flag,
+    name: "xip",
+    shown: "",
+    help: "Refuses an image in which a program would not be executed in place",
 };
 
 const MAX_SIZE: Word<'static> = Word {
@@ -327,7 +341,7 @@ const OWNERS: Word<'static> = Word {
 
 /// The subcommands that read one image or two, in the order in which help shows them. (One table of
 /// all subcommands takes the prover twice as long as two tables.)
-pub const READING: [Subcommand<'static>; 10] = [
+pub const READING: [Subcommand<'static>; 11] = [
     Subcommand {
         name: "check",
         about: "Reports whether a file holds a valid image, or which fault it has",
@@ -376,7 +390,12 @@ pub const READING: [Subcommand<'static>; 10] = [
     Subcommand {
         name: "linux",
         about: "Prints what Linux misreads in a valid image",
-        words: &[IMAGE, ADVICE],
+        words: &[IMAGE],
+    },
+    Subcommand {
+        name: "xip",
+        about: "Prints which programs of an image Linux executes in place",
+        words: &[IMAGE, BASE, NO_MMU, ADVICE],
     },
 ];
 
@@ -401,6 +420,7 @@ pub const OTHERS: [Subcommand<'static>; 6] = [
             OUT,
             NO_FOLLOW,
             STRICT_BUILD,
+            XIP_BUILD,
             MAX_SIZE,
             DIRECTORY,
             DEPFILE,

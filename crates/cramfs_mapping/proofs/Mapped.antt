@@ -15,7 +15,8 @@ use Rattle.cramfs_format.proofs.Contents.{place_at}
 use Rattle.cramfs_format.proofs.Lists.{lt_decides}
 use Rattle.cramfs_mapping.specs.declared.mapping.Mapping.{Mapping}
 use Rattle.cramfs_mapping.specs.Physmem.{Flash, is_mappable, is_expected, range_from, mapped_at, mapped_pages}
-use Rattle.cramfs_mapping.specs.Physmem.{last_is_shared, shares_page, without_shared}
+use Rattle.cramfs_mapping.specs.Physmem.{last_is_shared}
+use Rattle.cramfs_mapping.specs.Physmem.{shares_page, without_shared}
 use Rattle.cramfs_mapping.specs.Physmem.{is_run, is_whole}
 use Rattle.cramfs_mapping.specs.InPlace.{pages_in_place}
 use Rattle.cramfs_mapping.proofs.Fronts.{same_word, same_type, same_size, same_pointer}
@@ -141,8 +142,8 @@ module _ {o : Order} {f : Flash} {p start size : ℕ} (h : IsFileAt o f p start 
       → (if is_mappable o f p then mapped_at o f p first (min count (block_count (size_of o f.bytes p) - first))
       (pointer_of o f.bytes p first % 2 ^ 30) else 0)
       ≡ (if eqb ((f.address + start) % 4096) 0 then
-      without_shared (shares_page f.bytes (start + size_of o f.bytes p) (size_of o f.bytes p))
-      (size_of o f.bytes p) first
+      without_shared (shares_page f.bytes (start + size_of o f.bytes p) (size_of o f.bytes p)) (size_of o f.bytes p)
+      first
       (min count (block_count (size_of o f.bytes p) - first)) else 0)
   inside a first count l =
       let n : ℕ = min count (block_count (size_of o f.bytes p) - first) in
@@ -157,8 +158,8 @@ module _ {o : Order} {f : Flash} {p start size : ℕ} (h : IsFileAt o f p start 
       shared (omega arith) ∙ sym (ap (λ (k : ℕ). shares_page f.bytes (start + k) k) s) in
       ap (λ (v : Bool). if v then mapped_at o f p first n (pointer_of o f.bytes p first % 2 ^ 30) else 0)
       (mappable a (omega arith))
-      ∙ at_start o f p first n (pointer_of o f.bytes p first % 2 ^ 30) start (size_of o f.bytes p)
-      (λ z. (omega arith)) g
+      ∙ at_start o f p first n (pointer_of o f.bytes p first % 2 ^ 30) start (size_of o f.bytes p) (λ z. (omega arith))
+      g
       (all first n (omega arith) l') refl own
 
   -- the mapped pages of a file in one run

@@ -28,7 +28,7 @@ pub record IsOwnPage (f : Flash) (x : Node) (start : ℕ) (m : Mapping) (k : ℕ
       → shares_page f.bytes (start + length (places_of x)) (length (places_of x)) ≡ false
 
 -- Linux maps each such page of the file x, whose bytes begin at `start`, at the address of the
--- flash plus the offset of the page's first byte.
+-- flash plus the place of the page's first byte.
 abbrev pub IsInPlace : Order → Flash → Node → ℕ → Type 0
 IsInPlace o f x start =
     (m : Mapping) (k : ℕ) → IsOwnPage f x start m k

@@ -52,7 +52,6 @@ pub fn shares_page(b: &[u8], end: usize, size: usize) -> bool
 /// Returns how many pages of the mapping Linux maps to the flash, of a file of `size` bytes from
 /// `start` on. `b` are the bytes of the flash, and `address` is where they begin.
 pub fn pages_in_place(b: &[u8], address: u64, start: usize, size: usize, mapping: &Mapping) -> u64
-    requires address { address < 2 ^ 60 }
     requires start { start < 2 ^ 60 }
     requires size { size < 2 ^ 60 }
     requires count { mapping.now.count < 2 ^ 60 }
@@ -64,7 +63,7 @@ pub fn pages_in_place(b: &[u8], address: u64, start: usize, size: usize, mapping
     if mapping.writable || mapping.first >= blocks {
         return 0;
     }
-    if (address + start as u64) % 4_096 != 0 {
+    if (address % 4_096 + start as u64 % 4_096) % 4_096 != 0 {
         return 0;
     }
     let left = blocks - mapping.first;

@@ -1,8 +1,9 @@
 -- An ELF file's header and its program headers, of 32 and 64 bits, in either byte order.
 -- `BeginsElf`: the bytes begin with a header. `HasPrograms`: its table of program headers is one
--- that Linux loads. `Reads`: what a reader answers. `program_at`: a program header's fields.
--- (System V gABI, "ELF Header" and "Program Header"; elf(5). The limits of the table are those of
--- Linux 6.1 fs/binfmt_elf.c, `load_elf_phdrs`.)
+-- that Linux loads. `Reads`: what a reader answers. `kind_in`, `header_of`: the same as functions
+-- of the bytes. `program_at`: a program header's fields. (System V gABI, "ELF Header" and "Program
+-- Header"; elf(5). The limits of the table are those of Linux 6.1 fs/binfmt_elf.c,
+-- `load_elf_phdrs`.)
 --
 --   of 32 bits              of 64 bits
 --    4 class 1               4 class 2      byte 5: 1 little-endian, 2 big-endian
@@ -21,7 +22,8 @@
 --   28 p_align (4)          48 p_align (8)
 --   32 bytes in all         56 bytes in all
 use Rattle.std.specs.Prelude.{◌≡◌, ℕ, ◌+◌, ◌*◌, ◌≤◌, ◌<◌, List, [], ◌∷◌, length, drop, take}
-use Rattle.std.specs.Prelude.{slice_index, Result, Ok, Err}
+use Rattle.std.specs.Prelude.{slice_index, Result, Ok, Err, Option, Some, None, Bool, true, false}
+use Rattle.std.specs.Prelude.{◌==◌, ◌&&◌, nat_lt, if◌then◌else◌}
 use Rattle.byteorder.specs.Endian.{big_number, little_number}
 use Rattle.elf_format.specs.declared.error.ElfError.{ElfError}
 use Rattle.elf_format.specs.declared.error.ElfError.TheVariants.{NotElf, Table}
@@ -124,3 +126,59 @@ program_in c o b p = record {
 -- the i-th program header
 abbrev pub program_at : List ℕ → Header → ℕ → Program
 program_at b h i = program_in h.class h.order b (h.table + i * program_size h.class)
+
+-- the class and the byte order that two bytes name
+abbrev pub class_named : ℕ → Option Class
+class_named n = if n == 1 then Some Bits32 else (if n == 2 then Some Bits64 else None)
+
+abbrev pub order_named : ℕ → Option Order
+order_named n = if n == 1 then Some Little else (if n == 2 then Some Big else None)
+
+-- whether four bytes are the magic
+abbrev pub is_magic : List ℕ → Bool
+is_magic b =
+    (slice_index b 0 == 127) && ((slice_index b 1 == 69) && ((slice_index b 2 == 76)
+    && (slice_index b 3 == 70)))
+
+-- these, if the bytes have a header of the class
+abbrev pub within : List ℕ → Option Class → Option Order → Option (Class × Order)
+within b None o = None
+within b (Some c) None = None
+within b (Some c) (Some o) = if nat_lt (length b) (header_size c) then None else Some (c, o)
+
+-- the class and the byte order of the header with which the bytes begin, if they begin with one
+unfoldable pub named_in : List ℕ → Option (Class × Order)
+named_in b =
+    if nat_lt (length b) 52 then None
+    else (if is_magic b then within b (class_named (slice_index b 4))
+    (order_named (slice_index b 5)) else None)
+
+-- the type that a header of these has, if there is one
+abbrev pub kind_by : List ℕ → Option (Class × Order) → Option ℕ
+kind_by b None = None
+kind_by b (Some p) = Some (type_of p.1 b)
+
+-- the type of the file, if it begins with a header
+abbrev pub kind_in : List ℕ → Option ℕ
+kind_in b = kind_by b (named_in b)
+
+abbrev pub has_programs : List ℕ → Class → Order → Bool
+has_programs b c o =
+    if entry_size_of c o b == program_size c then (if count_of c o b == 0 then false
+    else (if nat_lt 4096 (count_of c o b * program_size c) then false
+    else (if nat_lt (length b) (table_of c o b + count_of c o b * program_size c) then false
+    else true))) else false
+
+abbrev pub header_by : List ℕ → Option (Class × Order) → Result Header ElfError
+header_by b None = Err NotElf
+header_by b (Some p) = if has_programs b p.0 p.1 then Ok (record {
+  class = p.0;
+  order = p.1;
+  kind = type_of p.1 b;
+  table = table_of p.0 p.1 b;
+  count = count_of p.0 p.1 b;
+}) else Err Table
+
+-- what a reader answers
+unfoldable pub header_of : List ℕ → Result Header ElfError
+header_of b = header_by b (named_in b)

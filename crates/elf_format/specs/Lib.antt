@@ -1,2 +1,4 @@
 pub mod Header
 pub mod Loading
+pub mod Dynamic
+pub mod Mapped

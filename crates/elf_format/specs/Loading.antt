@@ -1,8 +1,10 @@
 -- `loaded`: what Linux maps for a program header of a file of a size. `IsInFile`: its pages are
--- some of the file. (Linux 6.1 fs/binfmt_elf.c: `load_elf_binary`, `elf_map`, and mm/util.c:
--- `vm_mmap`, which refuses an offset within a page. Pages are of 4,096 bytes. A segment beyond the
--- end of the file is mapped, but an access to it is fatal: here it is refused.)
-use Rattle.std.specs.Prelude.{◌≤◌, ℕ, ◌+◌, ◌/◌, ◌%◌, Bool, false, true, if◌then◌else◌, ◌==◌, nat_lt}
+-- some of the file. `zero_pages`: the pages of zeros behind them. (Linux 6.1 fs/binfmt_elf.c:
+-- `load_elf_binary`, `elf_map`, and mm/util.c: `vm_mmap`, which refuses an offset within a page.
+-- Pages are of 4,096 bytes. A segment beyond the end of the file is mapped, but an access to it is
+-- fatal: here it is refused.)
+use Rattle.std.specs.Prelude.{◌≤◌, ℕ, ◌+◌, ◌-◌, ◌/◌, ◌%◌, Bool, false, true, if◌then◌else◌, ◌==◌}
+use Rattle.std.specs.Prelude.{nat_lt}
 use Rattle.elf_format.specs.declared.loading.Loading.{Loading}
 use Rattle.elf_format.specs.declared.loading.Loading.TheVariants.{Nothing, Refused, Pages}
 use Rattle.elf_format.specs.declared.program.Program.{Program}
@@ -37,3 +39,12 @@ abbrev pub IsInFile : ℕ → Loading → Type 0
 IsInFile file Nothing = Unit {0}
 IsInFile file Refused = Unit {0}
 IsInFile file (Pages first count writable) = first + count ≤ (file + 4095) / 4096
+
+-- the pages that n bytes from an address on take, if there are any
+abbrev pub pages_to : ℕ → ℕ → ℕ
+pages_to address n = (address % 4096 + n + 4095) / 4096
+
+-- the pages of a segment behind those with bytes from the file: they are zeros
+abbrev pub zero_pages : Program → ℕ
+zero_pages p =
+    if p.kind == 1 then pages_to p.address p.memory_size - pages_to p.address p.file_size else 0

@@ -1,8 +1,9 @@
 //! The header of an ELF file.
 ghost use Rattle.std.specs.Prelude.{◌≡◌, ◌<◌, ◌≤◌, length, slice_index, take};
-ghost use Rattle.std.specs.Prelude.{IfSome, IfNone, IsTrue, ◌↔◌};
+ghost use Rattle.std.specs.Prelude.{IfOk, IfSome, IfNone, IsTrue, ◌↔◌};
 ghost use Rattle.elf_format.specs.Header.{BeginsElf, HasPrograms, IsHeader, Reads, class_number};
-ghost use Rattle.elf_format.specs.Header.{header_size, magic, order_number, program_at};
+ghost use Rattle.elf_format.specs.Header.{class_named, header_of, header_size, is_magic, kind_in};
+ghost use Rattle.elf_format.specs.Header.{magic, named_in, order_named, order_number, program_at};
 ghost use Rattle.elf_format.specs.declared.numbers.Class.{Class};
 ghost use Rattle.elf_format.specs.declared.numbers.Order.{Order};
 
@@ -29,6 +30,7 @@ pub struct Header {
 fn class_named(number: u8) -> Option<Class>
     ensures some { IfSome result (λ c. number ≡ class_number c) }
     ensures none { IfNone result ((c : Class) → number ≡ class_number c → ⊥) }
+    ensures is { result ≡ class_named number }
 {
     match number {
         1 => Some(Class::Bits32),
@@ -41,6 +43,7 @@ fn class_named(number: u8) -> Option<Class>
 fn order_named(number: u8) -> Option<Order>
     ensures some { IfSome result (λ o. number ≡ order_number o) }
     ensures none { IfNone result ((o : Order) → number ≡ order_number o → ⊥) }
+    ensures is { result ≡ order_named number }
 {
     match number {
         1 => Some(Order::Little),
@@ -52,15 +55,18 @@ fn order_named(number: u8) -> Option<Order>
 /// Returns whether the bytes begin with the magic of ELF.
 fn begins(b: &[u8]) -> bool
     requires { 4 ≤ length b.now }
-    ensures { IsTrue result ↔ (take 4 b.now ≡ magic) }
+    ensures begins { IsTrue result ↔ (take 4 b.now ≡ magic) }
+    ensures is { result ≡ is_magic b.now }
 {
     b[0] == 0x7f && b[1] == b'E' && b[2] == b'L' && b[3] == b'F'
 }
 
 /// Returns the class and the byte order of the header with which the bytes begin.
+#[tactic(auto, unfolding(crate::specs::Header::named_in))]
 fn named(b: &[u8]) -> Option<(Class, Order)>
     ensures some { IfSome result (λ named. BeginsElf b.now named.0 named.1) }
     ensures none { IfNone result ((c : Class) (o : Order) → BeginsElf b.now c o → ⊥) }
+    ensures is { result ≡ named_in b.now }
 {
     if b.len() < 52 || !begins(b) {
         return None;
@@ -73,6 +79,16 @@ fn named(b: &[u8]) -> Option<(Class, Order)>
     Some((class, order))
 }
 
+/// Returns the type of an ELF file: 1 an object, 2 a program at a fixed address, 3 a program or
+/// library at any. Returns `None` if the bytes do not begin with the header of one.
+#[tactic(auto, unfolding(crate::specs::Header::type_of))]
+pub fn elf_kind(b: &[u8]) -> Option<u16>
+    ensures { result ≡ kind_in b.now }
+{
+    let (_, order) = named(b)?;
+    Some(order.half(b, 16))
+}
+
 impl Header {
     /// Reads the header of a file.
     ///
@@ -80,9 +96,11 @@ impl Header {
     ///
     /// `NotElf` if the file does not begin with one. `Table` if its table of program headers is
     /// empty, larger than a page, of entries of another size, or not in the file.
-    #[tactic(auto, unfolding(crate::specs::Header::type_of, crate::specs::Header::table_of, crate::specs::Header::count_of, crate::specs::Header::entry_size_of))]
+    #[tactic(auto, unfolding(crate::specs::Header::type_of, crate::specs::Header::table_of, crate::specs::Header::count_of, crate::specs::Header::entry_size_of, crate::specs::Header::header_of))]
     pub fn read(b: &[u8]) -> Result<Header, ElfError>
-        ensures { Reads b.now result }
+        ensures reads { Reads b.now result }
+        ensures is { result ≡ header_of b.now }
+        ensures few { IfOk result (λ h. h.count ≤ 128) }
     {
         let Some((class, order)) = named(b) else {
             return Err(ElfError::NotElf);

@@ -1,6 +1,6 @@
 //! The pages of a file that Linux maps for a program header.
-ghost use Rattle.std.specs.Prelude.{◌≡◌, ◌^◌, ◌<◌};
-ghost use Rattle.elf_format.specs.Loading.{IsInFile, loaded};
+ghost use Rattle.std.specs.Prelude.{◌≡◌, ◌+◌, ◌^◌, ◌<◌, ◌≤◌};
+ghost use Rattle.elf_format.specs.Loading.{IsInFile, loaded, pages_to, zero_pages};
 
 use crate::program::Program;
 
@@ -22,7 +22,30 @@ pub enum Loading {
     },
 }
 
+/// Returns the number of pages that `n` bytes take from an address on, if there are any.
+fn pages_to(address: u64, n: u64) -> u64
+    ensures is { result ≡ pages_to address n }
+    ensures few { result ≤ 2 ^ 52 + 2 }
+{
+    n / 4_096 + (address % 4_096 + n % 4_096 + 4_095) / 4_096
+}
+
 impl Program {
+    /// Returns the number of pages of a segment behind those with bytes of the file. They are of
+    /// zeros only.
+    pub fn zero_pages(&self) -> u64
+        ensures is { result ≡ zero_pages self.now }
+        ensures few { result ≤ 2 ^ 52 + 2 }
+    {
+        if self.kind != 1 {
+            return 0;
+        }
+        pages_to(self.address, self.memory_size).saturating_sub(pages_to(
+            self.address,
+            self.file_size,
+        ))
+    }
+
     /// Returns what Linux maps for the program header, from a file of this many bytes.
     pub fn loading(&self, file: u64) -> Loading
         requires { file < 2 ^ 60 }

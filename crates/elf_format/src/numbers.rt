@@ -81,6 +81,16 @@ impl Class {
         }
     }
 
+    /// Returns the size of an address.
+    pub fn address_size(self) -> usize
+        ensures { result ≡ width self }
+    {
+        match self {
+            Class::Bits32 => 4,
+            Class::Bits64 => 8,
+        }
+    }
+
     /// Reads an address, an offset or a size.
     pub fn address(self, order: Order, b: &[u8], at: usize) -> u64
         requires { at + width self ≤ length b.now }

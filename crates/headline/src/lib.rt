@@ -7,6 +7,8 @@
 //!   gives those bytes.
 //! - An image that was built from a manifest is accepted, and is served as the tree that the
 //!   manifest means. The same holds for an image that was streamed from files.
+//! - Linux executes the programs of such a cramfs image in place, if their ALIGN is a multiple of
+//!   4,096 and the image is in flash.
 //! - Lent bytes are a slice of the image, at the reported offset.
 //! - An image that is taken apart and built again has a tree like its own.
 //! - The name of a file that an image replaces leads, at each moment and after a crash, to what it
@@ -41,7 +43,10 @@ ghost use Rattle.manifest.specs.Printed.{manifest_text};
 ghost use Rattle.layout_terms.specs.Placement.{IsRun};
 ghost use Rattle.manifest.specs.Grammar.{manifest_of};
 ghost use Rattle.manifest.specs.Lines.{ManifestLines};
-ghost use Rattle.formats.specs.Format.{Format};
+ghost use Rattle.built_in_place.specs.Files.{AreInPlace, AreMappedWhole, HoldsImage};
+ghost use Rattle.cramfs_format.specs.declared.order.Order.{Order};
+ghost use Rattle.cramfs_mapping.specs.Physmem.{Flash};
+ghost use Rattle.formats.specs.Format.{Format, cramfs};
 ghost use Rattle.manifest_layout.specs.Placement.{CopiesStand, HasVolume, IsPlaced};
 ghost use Rattle.open_files.specs.Calls.{Of, Lent};
 ghost use Rattle.open_files.specs.Machine.{Open, image_calls, open_at};
@@ -69,6 +74,12 @@ ghost use Rattle.rom_tree.specs.declared.types.Limits.{Limits};
 /// files with the contents of one `file` line have their bytes at the same offsets. In romfs, the
 /// files of different lines have no offset in common. So `open` of the line's path and then one
 /// `map` of the whole file return all its bytes. Their first offset is a multiple of that ALIGN.
+///
+/// If the image is cramfs, and is at the front of flash that has an address and begins with a page,
+/// Linux maps the pages of each file whose ALIGN is a multiple of 4,096 to the flash itself: each
+/// page at the flash's address plus the page's offset, in each mapping that cannot be written,
+/// except a last page with other data behind the file. Without an MMU, Linux maps each such mapping
+/// of any file whole.
 pub fn headline()
     ensures accepted { (limits : Limits) (bytes : List ℕ) (r₀ r : Input) (w₀ w : Output)
         (o : Serving) → ServingEndsUnder limits bytes r₀ r w₀ w o
@@ -93,7 +104,13 @@ pub fn headline()
         (m : ManifestLines) (image : Image) → Builds f text contents (Ok bytes)
         → manifest_of text ≡ Ok m → HasTree bytes usual_limits image.tree
         → AreOpenedWhole image m }
+    ensures in_place { (o : Order) (text : List ℕ) (contents : List (List ℕ)) (bytes : List ℕ)
+        (m : ManifestLines) (t : Node) (f : Flash) → Builds (cramfs o) text contents (Ok bytes)
+        → manifest_of text ≡ Ok m → HasTree bytes usual_limits t → HoldsImage f bytes
+        → AreInPlace o f t m × AreMappedWhole o f t m }
 {
+    built_in_place::laws::built_is_in_place();
+    built_in_place::laws::built_is_mapped_whole();
     image_build::laws::built_is_accepted();
     image_build::laws::built_is_placed();
     image_check::laws::one_tree();
@@ -122,7 +139,8 @@ pub fn built_again()
 /// `file` and each `same` line has its own contents, of the planned size: the bytes that the reads
 /// of its source returned, one after the other, in the pass that wrote the image. If no source has
 /// a copy in the image, it is served as the tree that the manifest means with some contents of the
-/// sources. Its files, their copies and its volume's name are as in an image that was built.
+/// sources. Its files, their copies and its volume's name are as in an image that was built, and so
+/// is what Linux maps of a cramfs image.
 pub fn streamed()
     ensures each { (text : List ℕ) (p : Planned) (known : Option (List (List ℕ)))
         (old new : Option (List ℕ)) (r₀ r : Input) (w₀ w : Output) (o : Serving)
@@ -149,7 +167,14 @@ pub fn streamed()
         (old new : Option (List ℕ)) (image : Image) → (is : IsPlanOfText text p)
         → (s : IsWritten known (form_in p.format p) (stored_in p.format) old new)
         → HasTree (image_with p s.rest) usual_limits image.tree → AreOpenedWhole image is.lines }
+    ensures in_place { (o : Order) (text : List ℕ) (p : Planned) (known : Option (List (List ℕ)))
+        (old new : Option (List ℕ)) (t : Node) (f : Flash) → (is : IsPlanOfText text p)
+        → p.format ≡ cramfs o
+        → (s : IsWritten known (form_in p.format p) (stored_in p.format) old new)
+        → HasTree (image_with p s.rest) usual_limits t → HoldsImage f (image_with p s.rest)
+        → AreInPlace o f t is.lines × AreMappedWhole o f t is.lines }
 {
+    built_in_place::laws::streamed_is_in_place();
     image_build::laws::streamed_is_accepted();
     image_build::laws::streamed_is_placed();
     image_build::laws::built_is_accepted();

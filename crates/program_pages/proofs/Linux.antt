@@ -1,25 +1,28 @@
 -- The counted pages are the mapped ones.
-use Rattle.std.proofs.Common.{◌≡◌, ◌+◌, ℕ, zero, suc, List, refl, sym, ap, ◌∙◌}
+use Rattle.std.proofs.Common.{◌≡◌, ◌+◌, ℕ, zero, suc, false, List, refl, sym, ap, ◌∙◌}
 use Rattle.cramfs_format.specs.declared.order.Order.{Order}
 use Rattle.cramfs_mapping.specs.Physmem.{Flash, mapped_pages}
 use Rattle.cramfs_mapping.specs.InPlace.{pages_in_place}
 use Rattle.cramfs_mapping.specs.declared.mapping.Mapping.{Mapping}
+use Rattle.elf_format.specs.Header.{program_at}
+use Rattle.elf_format.specs.Loading.{loaded}
 use Rattle.elf_format.specs.declared.header.Header.{Header}
 use Rattle.elf_format.specs.declared.loading.Loading.{Loading}
 use Rattle.elf_format.specs.declared.loading.Loading.TheVariants.{Nothing, Refused, Pages}
-use Rattle.program_pages.specs.Counted.{loading_at, placed_of, placed_sum}
+use Rattle.program_pages.specs.Counted.{pages_sum, placed_of}
 use Rattle.program_pages.specs.Mapped.{mapped_of, mapped_sum}
 
 module _ (o : Order) (f : Flash) (p start size : ℕ)
     (law : (m : Mapping) → mapped_pages o f p m ≡ pages_in_place f start size m) where
-  one_mapped : (l : Loading) → placed_of f start size l ≡ mapped_of o f p l
+  one_mapped : (l : Loading) → placed_of f false start size l ≡ mapped_of o f p l
   one_mapped Nothing = refl
   one_mapped Refused = refl
   one_mapped (Pages first count writable) =
       sym (law (record { first = first; count = count; writable = writable }))
 
-  pub all_mapped : (b : List ℕ) (h : Header) (n : ℕ) → placed_sum f start size b h n ≡ mapped_sum o f p size b h n
+  pub all_mapped : (b : List ℕ) (h : Header) (n : ℕ)
+      → (pages_sum f false start size b h n).in_place ≡ mapped_sum o f p size b h n
   all_mapped b h zero = refl
   all_mapped b h (suc n) =
-      ap (λ (k : ℕ). k + placed_of f start size (loading_at b size h n)) (all_mapped b h n)
-      ∙ ap (λ (k : ℕ). mapped_sum o f p size b h n + k) (one_mapped (loading_at b size h n))
+      ap (λ (k : ℕ). k + placed_of f false start size (loaded size (program_at b h n))) (all_mapped b h n)
+      ∙ ap (λ (k : ℕ). mapped_sum o f p size b h n + k) (one_mapped (loaded size (program_at b h n)))

@@ -1,52 +1,80 @@
--- The pages of one program header more.
-use Rattle.std.proofs.Common.{◌≡◌, ◌≢◌, ℕ, suc, ◌+◌, ◌<◌, List, refl, ap, subst, ◌∙◌, arith, inl, inr}
+-- The pages of the program headers one after the other.
+use Rattle.std.proofs.Common.{◌≡◌, ℕ, zero, suc, ◌+◌, ◌<◌, List, Bool, true, false, refl, ap, sym, ◌∙◌, arith, inl, inr}
+use Rattle.std.proofs.Common.{Result, Ok, Err, Some, None}
+use Rattle.std.specs.Prelude.{if◌then◌else◌}
 use Rattle.std.proofs.lemmas.Bool.{cases_lt}
-use Rattle.cramfs_mapping.specs.Physmem.{Flash}
-use Rattle.elf_format.specs.declared.header.Header.{Header}
-use Rattle.elf_format.specs.declared.loading.Loading.{Loading}
-use Rattle.elf_format.specs.declared.loading.Loading.TheVariants.{Refused}
 use Rattle.rom_fields.specs.Words.{part_of}
-use Rattle.elf_format.specs.Header.{IsHeader}
+use Rattle.cramfs_mapping.specs.Physmem.{Flash}
+use Rattle.elf_format.specs.Header.{header_of, program_at}
+use Rattle.elf_format.specs.Loading.{loaded}
+use Rattle.elf_format.specs.declared.error.ElfError.{ElfError}
+use Rattle.elf_format.specs.declared.header.Header.{Header}
+use Rattle.elf_format.specs.declared.program.Program.{Program}
 use Rattle.program_pages.specs.declared.counting.ProgramPages.{ProgramPages}
-use Rattle.program_pages.specs.Counted.{AreCounted, placed_of, copied_of, loading_at, placed_sum, copied_sum}
+use Rattle.program_pages.specs.declared.counting.NoProgram.TheVariants.{Unloadable}
+use Rattle.program_pages.specs.Counted.{all_load, flash_at, is_refused, pages_by, pages_of, pages_sum, plus}
+use Rattle.program_pages.specs.Counted.{segment_pages}
 
-pub placed_more : (f : Flash) (start size : ℕ) (b : List ℕ) (h : Header) (n so_far more : ℕ) (l : Loading)
-    → l ≡ loading_at b size h n → so_far ≡ placed_sum f start size b h n → more ≡ placed_of f start size l
-    → so_far + more ≡ placed_sum f start size b h (n + 1)
-placed_more f start size b h n so_far more l e s m =
-    let k : n + 1 ≡ suc n = omega arith in
-    let z : more ≡ placed_of f start size (loading_at b size h n) = m ∙ ap (placed_of f start size) e in
-    rw (k, s, z) refl
-
-pub copied_more : (f : Flash) (start size : ℕ) (b : List ℕ) (h : Header) (n so_far more : ℕ) (l : Loading)
-    → l ≡ loading_at b size h n → so_far ≡ copied_sum f start size b h n → more ≡ copied_of f start size l
-    → so_far + more ≡ copied_sum f start size b h (n + 1)
-copied_more f start size b h n so_far more l e s m =
-    let k : n + 1 ≡ suc n = omega arith in
-    let z : more ≡ copied_of f start size (loading_at b size h n) = m ∙ ap (copied_of f start size) e in
-    rw (k, s, z) refl
-
-pub loads_more : (size : ℕ) (b : List ℕ) (h : Header) (n : ℕ) (l : Loading) → l ≡ loading_at b size h n → l ≢ Refused
-    → ((i : ℕ) → i < n → loading_at b size h i ≢ Refused) → (i : ℕ) → i < n + 1 → loading_at b size h i ≢ Refused
-loads_more size b h n l e d all i k =
+-- a program header that does not load is one of the first n
+pub some_refused : (size : ℕ) (b : List ℕ) (h : Header) (i n : ℕ) → i < n
+    → is_refused (loaded size (program_at b h i)) ≡ true → all_load size b h n ≡ false
+some_refused size b h i zero k r = absurd (omega arith)
+some_refused size b h i (suc n) k r =
     elim (cases_lt i n) [
-      | inl s ↦ all i s
+      | inl s ↦ earlier (is_refused (loaded size (program_at b h n))) (some_refused size b h i n s r)
       | inr s ↦
           let z : n ≡ i = omega arith in
-          λ r. d (e ∙ ap (λ (j : ℕ). loading_at b size h j) z ∙ r)
+          rw z (rw r refl)
     ]
+  where
+    earlier : {x : Bool} (t : Bool) → x ≡ false → (if t then false else x) ≡ false
+    earlier true e = refl
+    earlier false e = e
 
--- the sums over all program headers
-pub counted : (f : Flash) (start size : ℕ) (b : List ℕ) (h : Header) (n : ℕ) (p : ProgramPages)
-    → b ≡ part_of f.bytes start size → n ≡ h.count → IsHeader b h
-    → ((i : ℕ) → i < n → loading_at b size h i ≢ Refused) → p.in_place ≡ placed_sum f start size b h n
-    → p.copied ≡ copied_sum f start size b h n → AreCounted f start size p
-counted f start size b h n p e z r l q s = record {
-  header = h;
-  reads = subst (λ (v : List ℕ). IsHeader v h) e r;
-  loads = λ i k. subst (λ (v : List ℕ). loading_at v size h i ≢ Refused) e (l i (omega arith));
-  placed = q ∙ ap (λ (k : ℕ). placed_sum f start size b h k) z
-      ∙ ap (λ (v : List ℕ). placed_sum f start size v h h.count) e;
-  copied = s ∙ ap (λ (k : ℕ). copied_sum f start size b h k) z
-      ∙ ap (λ (v : List ℕ). copied_sum f start size v h h.count) e;
-}
+-- what an answer says of its test
+pub none_then : {A : Type 0} (t : Bool) (s : A) → None ≡ (if t then None else Some s) → t ≡ true
+none_then true s e = refl
+none_then false s e = grind arith
+
+pub some_then : {A : Type 0} (t : Bool) (s m : A) → Some m ≡ (if t then None else Some s) → (t ≡ false) × (m ≡ s)
+some_then true s m e = grind arith
+some_then false s m e = (refl, grind arith)
+
+pub sums_more : (f : Flash) (no_mmu : Bool) (start size : ℕ) (b : List ℕ) (h : Header) (n : ℕ)
+    (so_far more all : ProgramPages) (p : Program) → all ≡ plus so_far more → p ≡ program_at b h n
+    → more ≡ segment_pages f no_mmu start size p → so_far ≡ pages_sum f no_mmu start size b h n
+    → all ≡ pages_sum f no_mmu start size b h (n + 1)
+sums_more f no_mmu start size b h n so_far more all p a e m s =
+    let k : n + 1 ≡ suc n = omega arith in
+    let z : more ≡ segment_pages f no_mmu start size (program_at b h n) =
+    m ∙ ap (λ (q : Program). segment_pages f no_mmu start size q) e in
+    a ∙ rw (k, s, z) refl
+
+pub load_more : (size : ℕ) (b : List ℕ) (h : Header) (n : ℕ) (p : Program) → p ≡ program_at b h n
+    → is_refused (loaded size p) ≡ false → all_load size b h n ≡ true → all_load size b h (n + 1) ≡ true
+load_more size b h n p e r l =
+    let k : n + 1 ≡ suc n = omega arith in
+    let z : is_refused (loaded size (program_at b h n)) ≡ false =
+    sym (ap (λ (q : Program). is_refused (loaded size q)) e) ∙ r in
+    rw (k, z) l
+
+-- the answer by what was read of the header
+pub found : (flash : List ℕ) (address : ℕ) (no_mmu : Bool) (start size : ℕ) (b : List ℕ) (r : Result Header ElfError)
+    → b ≡ part_of flash start size → r ≡ header_of b
+    → pages_by (flash_at flash address) no_mmu start size b r ≡ pages_of (flash_at flash address) no_mmu start size
+unfolding pages_of
+found flash address no_mmu start size b r e h =
+    ap (λ (v : Result Header ElfError). pages_by (flash_at flash address) no_mmu start size b v) h
+    ∙ ap (λ (v : List ℕ). pages_by (flash_at flash address) no_mmu start size v (header_of v)) e
+
+pub loads : (f : Flash) (no_mmu : Bool) (start size : ℕ) (b : List ℕ) (h : Header) (n : ℕ) (p : ProgramPages)
+    → n ≡ h.count → all_load size b h n ≡ true → p ≡ pages_sum f no_mmu start size b h n
+    → Ok p ≡ pages_by f no_mmu start size b (Ok h)
+loads f no_mmu start size b h n p e l s =
+    let a : all_load size b h h.count ≡ true = sym (ap (all_load size b h) e) ∙ l in
+    let q : p ≡ pages_sum f no_mmu start size b h h.count = s ∙ ap (pages_sum f no_mmu start size b h) e in
+    rw a (ap Ok q)
+
+pub refuses : (f : Flash) (no_mmu : Bool) (start size : ℕ) (b : List ℕ) (h : Header)
+    → all_load size b h h.count ≡ false → Err Unloadable ≡ pages_by f no_mmu start size b (Ok h)
+refuses f no_mmu start size b h l = rw l refl

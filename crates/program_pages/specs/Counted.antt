@@ -1,66 +1,115 @@
--- `Counts`: how many pages of a program in the flash Linux maps in place, and how many it copies
+-- `pages_of`: how many pages of a program in the flash Linux maps in place, and how many it copies
 -- into memory. (This project's own. What is loaded is `elf_format.specs.Loading`, and what of it is
--- mapped is `cramfs_mapping.specs.InPlace`.)
-use Rattle.std.specs.Prelude.{◌≡◌, ◌≢◌, ◌<◌, ℕ, zero, suc, ◌+◌, ◌-◌, List, Result, Ok, Err}
+-- mapped is `cramfs_mapping.specs.InPlace`, or without an MMU `cramfs_mapping.specs.Physmem`.)
+use Rattle.std.specs.Prelude.{ℕ, zero, suc, ◌+◌, ◌-◌, max, List, Bool, true, false, if◌then◌else◌}
+use Rattle.std.specs.Prelude.{Result, Ok, Err, Option, Some, None}
 use Rattle.rom_fields.specs.Words.{part_of}
 use Rattle.cramfs_mapping.specs.Physmem.{Flash}
 use Rattle.cramfs_mapping.specs.InPlace.{pages_in_place}
-use Rattle.elf_format.specs.Header.{IsHeader, Reads, program_at}
-use Rattle.elf_format.specs.Loading.{loaded}
+use Rattle.cramfs_mapping.specs.declared.mapping.Mapping.{Mapping}
+use Rattle.elf_format.specs.Header.{header_of, program_at}
+use Rattle.elf_format.specs.Loading.{loaded, zero_pages}
+use Rattle.elf_format.specs.declared.error.ElfError.{ElfError}
 use Rattle.elf_format.specs.declared.error.ElfError.TheVariants as elf
 use Rattle.elf_format.specs.declared.header.Header.{Header}
 use Rattle.elf_format.specs.declared.loading.Loading.{Loading}
 use Rattle.elf_format.specs.declared.loading.Loading.TheVariants.{Nothing, Refused, Pages}
+use Rattle.elf_format.specs.declared.program.Program.{Program}
 use Rattle.program_pages.specs.declared.counting.ProgramPages.{ProgramPages}
 use Rattle.program_pages.specs.declared.counting.NoProgram.{NoProgram}
 use Rattle.program_pages.specs.declared.counting.NoProgram.TheVariants.{NotElf, BadTable}
 use Rattle.program_pages.specs.declared.counting.NoProgram.TheVariants.{Unloadable}
 
--- the pages of a file of `size` bytes from `start` on that are mapped in place, of those that are
--- loaded; and the others of them
-abbrev pub placed_of : Flash → ℕ → ℕ → Loading → ℕ
-placed_of f start size Nothing = 0
-placed_of f start size Refused = 0
-placed_of f start size (Pages first count writable) =
-    pages_in_place f start size (record { first = first; count = count; writable = writable })
+-- the flash of these bytes that begins at this address
+abbrev pub flash_at : List ℕ → ℕ → Flash
+flash_at b a = record { bytes = b; address = a }
 
-abbrev pub copied_of : Flash → ℕ → ℕ → Loading → ℕ
-copied_of f start size Nothing = 0
-copied_of f start size Refused = 0
-copied_of f start size (Pages first count writable) =
-    let mapping = record { first = first; count = count; writable = writable } in
-    count - pages_in_place f start size mapping
+-- the pages of a mapping of the file of `size` bytes from `start` on that are in place; without an
+-- MMU these are all, if they cannot be written
+abbrev pub placed_in : Flash → Bool → ℕ → ℕ → Mapping → ℕ
+placed_in f no_mmu start size m =
+    if no_mmu then (if m.writable then 0 else m.count) else pages_in_place f start size m
 
--- what the i-th program header of the file b loads
-abbrev pub loading_at : List ℕ → ℕ → Header → ℕ → Loading
-loading_at b size h i = loaded size (program_at b h i)
+-- the same of what is loaded
+abbrev pub placed_of : Flash → Bool → ℕ → ℕ → Loading → ℕ
+placed_of f no_mmu start size Nothing = 0
+placed_of f no_mmu start size Refused = 0
+placed_of f no_mmu start size (Pages first count writable) =
+    placed_in f no_mmu start size (record { first = first; count = count; writable = writable })
 
--- their sums over the first n program headers
-abbrev pub placed_sum : Flash → ℕ → ℕ → List ℕ → Header → ℕ → ℕ
-placed_sum f start size b h zero = 0
-placed_sum f start size b h (suc n) =
-    placed_sum f start size b h n + placed_of f start size (loading_at b size h n)
+-- the number of pages that are loaded, and of those of them that cannot be written
+abbrev pub loaded_pages : Loading → ℕ
+loaded_pages Nothing = 0
+loaded_pages Refused = 0
+loaded_pages (Pages first count writable) = count
 
-abbrev pub copied_sum : Flash → ℕ → ℕ → List ℕ → Header → ℕ → ℕ
-copied_sum f start size b h zero = 0
-copied_sum f start size b h (suc n) =
-    copied_sum f start size b h n + copied_of f start size (loading_at b size h n)
+abbrev pub fixed_pages : Loading → ℕ
+fixed_pages Nothing = 0
+fixed_pages Refused = 0
+fixed_pages (Pages first count writable) = if writable then 0 else count
 
--- the file's program headers, all of which load, and their pages
-pub record AreCounted (f : Flash) (start size : ℕ) (p : ProgramPages) : Type 0 where
-  pub header : Header
-  pub reads : IsHeader (part_of f.bytes start size) header
-  pub loads : (i : ℕ) → i < header.count
-      → loading_at (part_of f.bytes start size) size header i ≢ Refused
-  pub placed : p.in_place ≡ placed_sum f start size (part_of f.bytes start size) header header.count
-  pub copied : p.copied ≡ copied_sum f start size (part_of f.bytes start size) header header.count
+-- the end of the bytes of a program header that is loaded
+abbrev pub used_by : Program → Loading → ℕ
+used_by p Nothing = 0
+used_by p Refused = 0
+used_by p (Pages first count writable) = p.offset + p.file_size
 
--- The answer is the pages of the file of `size` bytes from `start` on. Otherwise the file is no
--- program, or Linux does not load one of its segments.
-abbrev pub Counts : Flash → ℕ → ℕ → Result ProgramPages NoProgram → Type 0
-Counts f start size (Ok p) = AreCounted f start size p
-Counts f start size (Err NotElf) = Reads (part_of f.bytes start size) (Err elf.NotElf)
-Counts f start size (Err BadTable) = Reads (part_of f.bytes start size) (Err elf.Table)
-Counts f start size (Err Unloadable) =
-    (h : Header) × (i : ℕ) × IsHeader (part_of f.bytes start size) h × (i < h.count)
-    × (loading_at (part_of f.bytes start size) size h i ≡ Refused)
+abbrev pub is_refused : Loading → Bool
+is_refused Nothing = false
+is_refused Refused = true
+is_refused (Pages first count writable) = false
+
+-- the pages of a program header
+abbrev pub segment_pages : Flash → Bool → ℕ → ℕ → Program → ProgramPages
+segment_pages f no_mmu start size p = record {
+  in_place = placed_of f no_mmu start size (loaded size p);
+  copied = loaded_pages (loaded size p) - placed_of f no_mmu start size (loaded size p);
+  fixed = fixed_pages (loaded size p);
+  zero = zero_pages p;
+  used = used_by p (loaded size p);
+}
+
+-- these, if Linux loads it
+abbrev pub segment_of : Flash → Bool → ℕ → ℕ → Program → Option ProgramPages
+segment_of f no_mmu start size p =
+    if is_refused (loaded size p) then None else Some (segment_pages f no_mmu start size p)
+
+abbrev pub no_pages : ProgramPages
+no_pages = record { in_place = 0; copied = 0; fixed = 0; zero = 0; used = 0 }
+
+abbrev pub plus : ProgramPages → ProgramPages → ProgramPages
+plus p q = record {
+  in_place = p.in_place + q.in_place;
+  copied = p.copied + q.copied;
+  fixed = p.fixed + q.fixed;
+  zero = p.zero + q.zero;
+  used = max p.used q.used;
+}
+
+-- the sums over the first n program headers of the file b, and the greatest end
+abbrev pub pages_sum : Flash → Bool → ℕ → ℕ → List ℕ → Header → ℕ → ProgramPages
+pages_sum f no_mmu start size b h zero = no_pages
+pages_sum f no_mmu start size b h (suc n) =
+    plus (pages_sum f no_mmu start size b h n)
+    (segment_pages f no_mmu start size (program_at b h n))
+
+-- whether Linux loads each of the first n program headers
+abbrev pub all_load : ℕ → List ℕ → Header → ℕ → Bool
+all_load size b h zero = true
+all_load size b h (suc n) =
+    if is_refused (loaded size (program_at b h n)) then false else all_load size b h n
+
+abbrev pub pages_by : Flash → Bool → ℕ → ℕ → List ℕ → Result Header ElfError
+    → Result ProgramPages NoProgram
+pages_by f no_mmu start size b (Ok h) =
+    if all_load size b h h.count then Ok (pages_sum f no_mmu start size b h h.count)
+    else Err Unloadable
+pages_by f no_mmu start size b (Err elf.NotElf) = Err NotElf
+pages_by f no_mmu start size b (Err elf.Table) = Err BadTable
+
+-- The pages of the program whose file has `size` bytes from `start` on. Otherwise the file is no
+-- program, or Linux does not load it.
+unfoldable pub pages_of : Flash → Bool → ℕ → ℕ → Result ProgramPages NoProgram
+pages_of f no_mmu start size =
+    pages_by f no_mmu start size (part_of f.bytes start size)
+    (header_of (part_of f.bytes start size))

@@ -4,10 +4,11 @@
 use Rattle.std.specs.Prelude.{ℕ, zero, suc, ◌+◌, List}
 use Rattle.cramfs_format.specs.declared.order.Order.{Order}
 use Rattle.cramfs_mapping.specs.Physmem.{Flash, mapped_pages}
+use Rattle.elf_format.specs.Header.{program_at}
+use Rattle.elf_format.specs.Loading.{loaded}
 use Rattle.elf_format.specs.declared.header.Header.{Header}
 use Rattle.elf_format.specs.declared.loading.Loading.{Loading}
 use Rattle.elf_format.specs.declared.loading.Loading.TheVariants.{Nothing, Refused, Pages}
-use Rattle.program_pages.specs.Counted.{loading_at}
 
 -- those of one program header of the file whose inode is at p
 abbrev pub mapped_of : Order → Flash → ℕ → Loading → ℕ
@@ -20,4 +21,4 @@ mapped_of o f p (Pages first count writable) =
 abbrev pub mapped_sum : Order → Flash → ℕ → ℕ → List ℕ → Header → ℕ → ℕ
 mapped_sum o f p size b h zero = 0
 mapped_sum o f p size b h (suc n) =
-    mapped_sum o f p size b h n + mapped_of o f p (loading_at b size h n)
+    mapped_sum o f p size b h n + mapped_of o f p (loaded size (program_at b h n))

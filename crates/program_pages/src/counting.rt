@@ -1,22 +1,25 @@
 //! The pages of a program.
-ghost use Rattle.std.specs.Prelude.{◌≡◌, ◌≢◌, ◌+◌, ◌≤◌, ◌<◌, ◌^◌, length, IfSome, IfNone};
-ghost use Rattle.cramfs_mapping.specs.Physmem.{Flash};
-ghost use Rattle.elf_format.specs.Loading.{IsInFile};
-ghost use Rattle.elf_format.specs.declared.loading.Loading.TheVariants.{Refused};
+ghost use Rattle.std.specs.Prelude.{◌≡◌, ◌+◌, ◌≤◌, ◌<◌, ◌^◌, length, IfSome, IfOk};
 ghost use Rattle.rom_fields.specs.Words.{part_of};
-ghost use Rattle.program_pages.specs.Counted.{Counts, copied_of, placed_of};
+ghost use Rattle.program_pages.specs.Counted.{flash_at, pages_of, placed_in, plus, segment_of};
 
 use cramfs_mapping::{Mapping, pages_in_place};
-use elf_format::{ElfError, Header, Loading};
+use elf_format::{ElfError, Header, Loading, Program};
 use rom_fields::part;
 
-/// The pages of a program by what Linux does with them.
+/// The pages of 4,096 bytes of a program by what Linux does with them.
 #[derive(Clone, Copy, Debug, PartialEq, Eq)]
 pub struct ProgramPages {
     /// The pages that are mapped to the flash.
     pub in_place: u64,
     /// The pages that are read into memory when they are used.
     pub copied: u64,
+    /// The pages that cannot be written, among both of them.
+    pub fixed: u64,
+    /// The pages of zeros only, which are not in the file.
+    pub zero: u64,
+    /// The number of the file's bytes up to the end of the last segment.
+    pub used: u64,
 }
 
 /// Why a file is no program that Linux executes.
@@ -30,31 +33,82 @@ pub enum NoProgram {
     Unloadable,
 }
 
-/// Returns the pages of what is loaded of the file of `size` bytes from `start` on, or `None` if
+impl ProgramPages {
+    /// No pages.
+    const NONE: ProgramPages = ProgramPages {
+        in_place: 0,
+        copied: 0,
+        fixed: 0,
+        zero: 0,
+        used: 0,
+    };
+
+    /// Returns the sums of the pages of both, and the greater end.
+    fn plus(&self, more: &ProgramPages) -> ProgramPages
+        requires in_place { self.now.in_place + more.now.in_place < 2 ^ 64 }
+        requires copied { self.now.copied + more.now.copied < 2 ^ 64 }
+        requires fixed { self.now.fixed + more.now.fixed < 2 ^ 64 }
+        requires zero { self.now.zero + more.now.zero < 2 ^ 64 }
+        ensures { result ≡ plus self.now more.now }
+    {
+        ProgramPages {
+            in_place: self.in_place + more.in_place,
+            copied: self.copied + more.copied,
+            fixed: self.fixed + more.fixed,
+            zero: self.zero + more.zero,
+            used: self.used.max(more.used),
+        }
+    }
+}
+
+/// Returns how many pages of a mapping are in place, of the file of `size` bytes from `start` on.
+fn placed(
+    flash: &[u8],
+    address: u64,
+    no_mmu: bool,
+    start: usize,
+    size: usize,
+    mapping: &Mapping,
+) -> u64
+    requires start { start < 2 ^ 48 }
+    requires size { size < 2 ^ 48 }
+    requires count { mapping.now.count < 2 ^ 48 }
+    ensures pages { result ≡ placed_in (flash_at flash.now address) no_mmu start size mapping.now }
+    ensures few { result ≤ mapping.now.count }
+{
+    if no_mmu {
+        return if mapping.writable { 0 } else { mapping.count };
+    }
+    pages_in_place(flash, address, start, size, mapping)
+}
+
+/// Returns the pages of a program header of the file of `size` bytes from `start` on, or `None` if
 /// Linux does not load it.
 fn segment(
     flash: &[u8],
     address: u64,
+    no_mmu: bool,
     start: usize,
     size: usize,
-    loading: Loading,
+    program: &Program,
 ) -> Option<ProgramPages>
-    requires address { address < 2 ^ 48 }
     requires start { start < 2 ^ 48 }
     requires size { size < 2 ^ 48 }
-    requires inside { IsInFile size loading }
-    ensures in_place { (f : Flash) → f.bytes ≡ flash.now → f.address ≡ address
-        → IfSome result (λ s. s.in_place ≡ placed_of f start size loading) }
-    ensures copied { (f : Flash) → f.bytes ≡ flash.now → f.address ≡ address
-        → IfSome result (λ s. s.copied ≡ copied_of f start size loading) }
-    ensures small { IfSome result (λ s. s.in_place + s.copied ≤ 2 ^ 40) }
-    ensures none { IfNone result (loading ≡ Refused) }
-    ensures some { IfSome result (λ _. loading ≢ Refused) }
+    ensures is { result ≡ segment_of (flash_at flash.now address) no_mmu start size program.now }
+    ensures in_place { IfSome result (λ s. s.in_place ≤ 2 ^ 40) }
+    ensures copied { IfSome result (λ s. s.copied ≤ 2 ^ 40) }
+    ensures fixed { IfSome result (λ s. s.fixed ≤ 2 ^ 40) }
+    ensures zero { IfSome result (λ s. s.zero ≤ 2 ^ 53) }
+    ensures used { IfSome result (λ s. s.used ≤ size) }
 {
-    match loading {
+    let zero = program.zero_pages();
+    match program.loading(size as u64) {
         Loading::Nothing => Some(ProgramPages {
             in_place: 0,
             copied: 0,
+            fixed: 0,
+            zero,
+            used: 0,
         }),
         Loading::Refused => None,
         Loading::Pages {
@@ -67,10 +121,13 @@ fn segment(
                 count,
                 writable,
             };
-            let in_place = pages_in_place(flash, address, start, size, &mapping);
+            let in_place = placed(flash, address, no_mmu, start, size, &mapping);
             Some(ProgramPages {
                 in_place,
                 copied: count - in_place,
+                fixed: if writable { 0 } else { count },
+                zero,
+                used: program.offset + program.file_size,
             })
         }
     }
@@ -88,7 +145,8 @@ fn file_in<'a>(flash: &'a [u8], start: usize, size: usize) -> &'a [u8]
 }
 
 /// Counts the pages of the program whose file has `size` bytes from `start` on. `flash` are the
-/// bytes of the flash from the image on, and `address` is where they begin.
+/// bytes of the flash from the image on, and `address` is where they begin. Without an MMU all
+/// pages that cannot be written are in place.
 ///
 /// # Errors
 ///
@@ -97,15 +155,16 @@ fn file_in<'a>(flash: &'a [u8], start: usize, size: usize) -> &'a [u8]
 pub fn program_pages(
     flash: &[u8],
     address: u64,
+    no_mmu: bool,
     start: usize,
     size: usize,
 ) -> Result<ProgramPages, NoProgram>
-    requires address { address < 2 ^ 48 }
     requires within { start + size ≤ length flash.now }
     requires start { start < 2 ^ 48 }
     requires size { size < 2 ^ 48 }
-    ensures { (f : Flash) → f.bytes ≡ flash.now → f.address ≡ address
-        → Counts f start size result }
+    ensures is { result ≡ pages_of (flash_at flash.now address) no_mmu start size }
+    ensures small { IfOk result (λ p. p.in_place + p.copied ≤ 2 ^ 48) }
+    ensures within { IfOk result (λ p. p.used ≤ size) }
 {
     let b = file_in(flash, start, size);
     let header = match Header::read(b) {
@@ -113,17 +172,13 @@ pub fn program_pages(
         Err(ElfError::NotElf) => return Err(NoProgram::NotElf),
         Err(ElfError::Table) => return Err(NoProgram::BadTable),
     };
-    let mut pages = ProgramPages {
-        in_place: 0,
-        copied: 0,
-    };
+    let mut pages = ProgramPages::NONE;
     for index in 0..header.count {
-        let loading = header.program(b, index).loading(size as u64);
-        let Some(more) = segment(flash, address, start, size, loading) else {
+        let program = header.program(b, index);
+        let Some(more) = segment(flash, address, no_mmu, start, size, &program) else {
             return Err(NoProgram::Unloadable);
         };
-        pages.in_place += more.in_place;
-        pages.copied += more.copied;
+        pages = pages.plus(&more);
     }
     Ok(pages)
 }

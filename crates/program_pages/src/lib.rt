@@ -7,6 +7,8 @@
 #![tactic(auto)]
 
 mod counting;
+mod flat;
 pub mod laws;
 
 pub use counting::{NoProgram, ProgramPages, program_pages};
+pub use flat::{flat_pages, is_flat};

@@ -1,4 +1,5 @@
 //! What is asked of an image.
+use program_report::Question;
 
 /// What is written of a valid image.
 #[derive(Clone, Copy, PartialEq, Eq)]
@@ -11,6 +12,8 @@ pub enum Asked {
     Map(u64),
     /// What Linux misreads in it.
     Misreads,
+    /// Which of its programs Linux executes in place.
+    Programs(Question),
     /// Its facts, if its file has this number of bytes.
     Facts(u64),
     /// Its facts, and whether it fits into a number of bytes.

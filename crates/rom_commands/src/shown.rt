@@ -20,6 +20,7 @@ use crate::room::{free_bytes, image_size, write_room};
 use image_check::{AnyImage, check};
 use image_info::{InfoError, map, write_info};
 use linux_misreads::misreads;
+use program_report::{Question, write_programs};
 use rom_faults::{CheckError, Fault};
 use rom_fields::{ByteWrite, Failed, put, put_decimal};
 use rom_tree::{Limits, Report, list};
@@ -31,7 +32,9 @@ pub fn has_addresses(asked: Asked, len: usize) -> bool
     ensures { IsTrue result ↔ Fits asked len }
 {
     match asked {
-        Asked::Map(base) => len == 0 || base.checked_add(len as u64 - 1).is_some(),
+        Asked::Map(base) | Asked::Programs(Question { base, .. }) => {
+            len == 0 || base.checked_add(len as u64 - 1).is_some()
+        }
         _ => true,
     }
 }
@@ -43,7 +46,8 @@ pub fn takes_fault(asked: Asked) -> bool
 {
     match asked {
         Asked::Report | Asked::List => true,
-        Asked::Map(_) | Asked::Misreads | Asked::Facts(_) | Asked::Fit { .. } => false,
+        Asked::Map(_) | Asked::Misreads | Asked::Programs(_) => false,
+        Asked::Facts(_) | Asked::Fit { .. } => false,
     }
 }
 
@@ -140,6 +144,10 @@ fn write_sound<W: ByteWrite>(
             Err(_) => Err(InfoError::WriteFault),
         },
         Asked::Misreads => misreads(alloc, image, w),
+        Asked::Programs(question) => match write_programs(image, &question, w) {
+            Ok(warned) => Ok(warned),
+            Err(_) => Err(InfoError::WriteFault),
+        },
         Asked::Facts(file) => write_facts(alloc, image, file, w),
         Asked::Fit { file, limit } => write_fit(alloc, image, file, limit, w),
     }

@@ -10,12 +10,14 @@ abbrev pub asked_with : Option ℕ → Asked
 asked_with None = asked.Facts 0
 asked_with (Some limit) = asked.Fit 0 limit
 
--- `list`, `map`, `linux` and `info`, before their file is read; `check` and all others ask for the
--- report
+-- `list`, `map`, `linux`, `xip` and `info`, before their file is read; `check` and all others ask
+-- for the report
 abbrev pub asked_by : Request → Asked
 asked_by (request.List image) = asked.List
 asked_by (request.Map m) = asked.Map m.base
-asked_by (request.Linux l) = asked.Misreads
+asked_by (request.Linux image) = asked.Misreads
+asked_by (request.Xip x) =
+    asked.Programs (record { base = x.base; no_mmu = x.no_mmu; advice = x.advice })
 asked_by (request.Info i) = asked_with i.size
 asked_by _ = asked.Report
 

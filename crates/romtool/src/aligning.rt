@@ -1,7 +1,7 @@
 //! The alignments of the scanned files.
 use crate::patterns::Patterns;
 use crate::reporter::Reporter;
-use build_commands::elf::{HEAD_LEN, is_program};
+use build_commands::elf::{HEAD_LEN, needs_pages};
 use build_commands::inventory::{FileKind, NamedFile, align_of};
 use program_streams::read_until;
 use rom_commands::{Ending, Status};
@@ -11,29 +11,26 @@ use std::collections::BTreeMap;
 use std::fs::{File, OpenFile};
 use std::io;
 
-/// The execute bits of a mode.
-const EXECUTE: u32 = 0o111;
+/// The number of bytes at the front of a file that show its format.
+const FORMAT_LEN: u64 = 4;
 
 /// Alignments of files, by their devices and numbers.
 type Largest = BTreeMap<(u64, u64), u32>;
 
-/// Whether the file of this name is an executable or a shared object, by its first bytes.
-fn is_program_at(rt: &HostRuntime, name: &str) -> io::Result<bool> {
+/// Whether the file of this name is a program or a library that needs pages of its own to be
+/// executed in place. Of a file in another format only the first bytes are read.
+fn needs_pages_at(rt: &HostRuntime, name: &str) -> io::Result<bool> {
     let mut file = File::open(rt, name)?;
     let mut bytes = Vec::new(rt.alloc());
-    let most = HEAD_LEN as u64;
-    read_until(&mut file, &mut bytes, most, most)?;
-    let mut head = [0u8; HEAD_LEN];
-    if bytes.len() < HEAD_LEN {
-        return Ok(false);
+    read_until(&mut file, &mut bytes, FORMAT_LEN, FORMAT_LEN)?;
+    if bytes.as_slice() == b"\x7fELF".as_slice() {
+        let length = file.metadata()?.len();
+        read_until(&mut file, &mut bytes, HEAD_LEN, length)?;
     }
-    for (to, from) in head.iter_mut().zip(bytes.iter()) {
-        *to = *from;
-    }
-    Ok(is_program(&head))
+    Ok(needs_pages(&bytes))
 }
 
-/// The alignment of a regular file. The file is opened only if its mode does not decide.
+/// The alignment of a regular file. The file is opened only if no pattern decides.
 fn align_at(
     rt: &HostRuntime,
     patterns: &Patterns,
@@ -44,9 +41,8 @@ fn align_at(
     if let Some(align) = patterns.align(rt.alloc(), path.trim_start_matches('/'))? {
         return Ok(align);
     }
-    let is_asked = align != align_of(0, false, align) && file.mode & EXECUTE == 0;
-    let is_program = is_asked && is_program_at(rt, &file.place)?;
-    Ok(align_of(file.mode, is_program, align))
+    let is_asked = align != align_of(false, align);
+    Ok(align_of(is_asked && needs_pages_at(rt, &file.place)?, align))
 }
 
 /// The largest alignment of each file with several links, by its device and number.
@@ -75,7 +71,7 @@ fn share(largest: &Largest, found: &mut [NamedFile]) {
     }
 }
 
-/// Sets the alignment of each regular file by its path, mode and contents. Reports a file that
+/// Sets the alignment of each regular file by its path and contents. Reports a file that
 /// cannot be read.
 fn align_each(
     reporter: &Reporter<'_>,
@@ -95,8 +91,8 @@ fn align_each(
 }
 
 /// Sets the alignment of each regular file: that of the last pattern that matches its path;
-/// otherwise this one if the file is a program, a library or executable. A file with several names
-/// has the largest alignment of these names. Reports a file that cannot be read.
+/// otherwise this one if the file is a program or a library that is executed in place. A file with
+/// several names has the largest alignment of these names. Reports a file that cannot be read.
 pub fn align_all(
     reporter: &Reporter<'_>,
     patterns: &Patterns,

@@ -11,6 +11,7 @@ use crate::depfile::Rule;
 use crate::disk::{Disk, first_changed};
 use crate::foreseen::{Warnings, foreseen};
 use crate::imaging::{Late, Unchanged};
+use crate::in_place::{Unknown, first_unplaced};
 use crate::origin::Origin;
 use crate::progress::Progress;
 use crate::reading::TextFile;
@@ -19,7 +20,9 @@ use crate::sources::{joined_names, names_of, sizes_of, stamps_of, texts_of};
 use crate::stamp::{Identity, Stamp, has_changed, let_rest};
 use crate::target::{FillError, Target};
 use crate::{bad_lines, depfile, explained, own_output, reading, warned};
-use build_commands::{print_bad_manifest, print_built, print_misfit, print_size, print_strict};
+use build_commands::{
+    print_bad_manifest, print_built, print_misfit, print_size, print_strict, print_xip,
+};
 use command_line::Build;
 use file_sources::FileSources;
 use image_build::StreamError;
@@ -32,7 +35,8 @@ use program_streams::Held;
 use rom_commands::{Ending, Status};
 use rom_fields::{Failed, Plain};
 use sentences::reasons::{
-    NOT_TAKEN, OWN_INPUT, OWN_OUTPUT, PART_REPLACED, SOURCE_CHANGED, SOURCE_UNREAD, SUM_DIFFERS,
+    NOT_TAKEN, OWN_ERROR, OWN_INPUT, OWN_OUTPUT, PART_REPLACED, SOURCE_CHANGED, SOURCE_UNREAD,
+    SUM_DIFFERS,
 };
 use std::{fs, io};
 
@@ -201,8 +205,10 @@ impl Inputs<'_> {
     /// Which files these are, standard output, and the file of this name, which is written, too.
     fn identities(&self, rt: &HostRuntime, written: Option<&str>) -> io::Result<Vec<Identity>> {
         let mut all = Vec::new(rt.alloc());
-        if let Some(output) = own_output::identity(rt) {
-            all.push(output)?;
+        for stream in [own_output::identity(rt), own_output::error_identity(rt)] {
+            if let Some(stream) = stream {
+                all.push(stream)?;
+            }
         }
         if let Some(name) = written
             && let Ok(found) = fs::metadata(rt, name)
@@ -228,6 +234,9 @@ fn check_output(reporter: &Reporter<'_>, name: &str, inputs: Inputs<'_>) -> Resu
         }
         if own_output::is_own(reporter.rt, &found) {
             return Err(reporter.failed(name.as_bytes(), &OWN_OUTPUT));
+        }
+        if own_output::is_own_error(reporter.rt, &found) {
+            return Err(reporter.failed(name.as_bytes(), &OWN_ERROR));
         }
     }
     Ok(())
@@ -458,6 +467,32 @@ fn warnings_of<'m>(
     }
 }
 
+/// Refuses a planned image in which Linux would not execute a program in place, if this is asked
+/// for.
+fn check_programs(
+    reporter: &Reporter<'_>,
+    asked: Build<'_>,
+    plan: &Plan,
+    files: Files<'_>,
+) -> Result<(), Status> {
+    if !asked.xip {
+        return Ok(());
+    }
+    let rt = reporter.rt;
+    match first_unplaced(rt, plan, files.origin, files.names, files.stamps) {
+        Ok(None) => Ok(()),
+        Ok(Some(found)) => {
+            let out = &mut Plain::new(Held::new(rt.alloc(), io::writer(rt)));
+            let word = found.reason.word();
+            let status = printed(reporter, print_xip(out, found.line, word, found.path));
+            warned::explain_unplaced(reporter, files.origin, found);
+            Err(status)
+        }
+        Err(Unknown::Memory) => Err(reporter.say(Ending::Memory)),
+        Err(Unknown::Source(file, e)) => Err(files.say_fault(reporter, file, Some(e))),
+    }
+}
+
 /// Writes the image of a plan into the file that is asked for, and the rule if one is.
 fn write_files(
     reporter: &Reporter<'_>,
@@ -519,10 +554,10 @@ fn build_from(
         names,
         stamps: &stamps,
     };
+    check_programs(reporter, asked, &plan, files)?;
     write_files(reporter, asked, &plan, files)?;
     let status = say_built(reporter, plan.image_len() as u64);
     warned::explain(reporter, origin, &warnings, "warning: ");
-    warned::explain_pages(reporter, &plan, asked.out);
     Ok(status)
 }
 

@@ -15,7 +15,6 @@
 //! are made to the system. The other work with files and directories is only tested.
 #![tactic(auto)]
 
-mod advice;
 mod aligning;
 mod arguments;
 mod bad_lines;
@@ -34,10 +33,12 @@ mod extraction;
 mod flash;
 mod foreseen;
 mod imaging;
+mod in_place;
 mod inventory;
 mod lister;
 mod making;
 mod members;
+mod mounted;
 mod origin;
 mod overlay;
 mod own_output;

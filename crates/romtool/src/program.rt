@@ -10,10 +10,10 @@ use crate::replies::Replies;
 use crate::reporter::Reporter;
 use crate::streams::hold_closed;
 use crate::{
-    advice, building, differing, digesting, extracting, flash, packing, reading, scanning, totals,
+    building, differing, digesting, extracting, flash, packing, reading, scanning, totals,
     verifying, version,
 };
-use command_line::{Extract, Linux, MapForm, Request, read};
+use command_line::{Extract, MapForm, Request, read};
 use image_check::check;
 use image_load::{Found, Front, Loaded};
 use program_streams::{Again, Ahead, Held};
@@ -24,7 +24,7 @@ use rom_commands::{
 use rom_faults::{CheckError, Fault};
 use rom_fields::{ByteRead, ByteWrite, Plain};
 use rom_tree::Limits;
-use sentences::reasons::{MISREAD, NO_ADDRESS};
+use sentences::reasons::{MISREAD, NO_ADDRESS, NOT_IN_PLACE};
 use std::io::{self, BufWriter};
 
 /// The text after the list of the example image.
@@ -68,7 +68,8 @@ fn done(reporter: &Reporter<'_>, request: Request<'_>) -> Status {
         Request::Version => version::run(reporter),
         Request::Check(image) | Request::List(image) => file(reporter, image, asked),
         Request::Info(info) => file(reporter, info.image, asked),
-        Request::Linux(linux) => misread(reporter, linux, asked),
+        Request::Linux(image) => file(reporter, image, asked),
+        Request::Xip(xip) => file(reporter, xip.image, asked),
         Request::Map(map) => match map.form {
             MapForm::Files => file(reporter, map.image, asked),
             _ => flash::map(reporter, map),
@@ -158,19 +159,6 @@ fn no_address(reporter: &Reporter<'_>, name: &str) -> Status {
 fn file(reporter: &Reporter<'_>, name: &str, asked: Asked) -> Status {
     match image_in(reporter, name, asked) {
         Ok(image) => shown(reporter, name, &image.bytes, in_file(image.file, asked)),
-        Err(status) => status,
-    }
-}
-
-/// Prints what Linux misreads in the image in a file, and with `--advice` the files that share
-/// their last pages.
-fn misread(reporter: &Reporter<'_>, linux: Linux<'_>, asked: Asked) -> Status {
-    match image_in(reporter, linux.image, asked) {
-        Ok(image) => match shown(reporter, linux.image, &image.bytes, asked) {
-            Status::Failed => Status::Failed,
-            status if linux.advice => advice::run(reporter, &image.bytes, status),
-            status => status,
-        },
         Err(status) => status,
     }
 }
@@ -374,10 +362,12 @@ fn explain_size(reporter: &Reporter<'_>, name: &[u8], bytes: &[u8], limit: u64) 
     }
 }
 
-/// Explains why a valid image was refused: Linux misreads it, or it does not fit.
+/// Explains why a valid image was refused: Linux misreads it, does not execute a program in place,
+/// or it does not fit.
 fn explain_warning(reporter: &Reporter<'_>, name: &[u8], bytes: &[u8], asked: Asked) {
     match asked {
         Asked::Misreads => reporter.explain(name, &MISREAD),
+        Asked::Programs(_) => reporter.explain(name, &NOT_IN_PLACE),
         Asked::Fit { limit, .. } => explain_size(reporter, name, bytes, limit),
         _ => {}
     }

@@ -4,6 +4,7 @@ ghost use Rattle.atomic_file.specs.Accounts.{log_of, room_of};
 
 use crate::beside::{Beside, KeepError, NAMES, Others, System, Writer, is_of_its_kind};
 use crate::closing::close;
+use crate::mounted::is_mounted;
 use crate::parts::is_part_name;
 use crate::place::{behind_links, directory_of, name_in_directory};
 use crate::stamp::Identity;
@@ -12,7 +13,7 @@ use image_file::{LastCheck, PlanImage, Unwritten, put};
 use image_stream::Sources;
 use program_streams::{Held, Remembering};
 use rom_fields::{ByteWrite, Failed, Plain};
-use sentences::reasons::{HUNDRED_PARTS, REPLACED};
+use sentences::reasons::{HUNDRED_PARTS, MOUNTED, REPLACED};
 use std::fs::{File, OpenFile, OpenOptions};
 use std::marker::Model;
 use std::{fs, io};
@@ -241,11 +242,15 @@ impl Target {
     ///
     /// # Errors
     ///
-    /// That of the system: for a directory, for a file that cannot be written, for a link that
-    /// leads nowhere, or if no file can be made beside it.
+    /// The operating system's error: for a directory, for a file that cannot be written, for a link
+    /// that leads nowhere, or if no file can be made beside it; `ResourceBusy` for a block device
+    /// that is mounted.
     pub fn open(rt: &HostRuntime, name: &str, inputs: Vec<Identity>) -> io::Result<Target> {
         match fs::metadata(rt, name) {
             Ok(found) if found.is_file() => in_place_of(rt, name, inputs),
+            Ok(found) if is_mounted(rt, &found) => {
+                Err(io::Error::new(io::ErrorKind::ResourceBusy, MOUNTED))
+            }
             Ok(_) => straight(rt, name),
             Err(e) if e.kind() == io::ErrorKind::NotFound => in_a_new_place(rt, name, inputs, e),
             Err(e) => Err(e),

@@ -1,13 +1,11 @@
 //! The warnings of a build in words, and its refusal if it is strict.
 use crate::foreseen::{Warning, Warnings};
+use crate::in_place::Unplaced;
 use crate::origin::Origin;
 use crate::reporter::Reporter;
-use plan_types::{Body, Plan};
+use program_report::Reason;
 use sentences::words::shown;
 use std::alloc::AllocError;
-
-/// The number of bytes of a page of memory.
-const PAGE: u32 = 4096;
 
 /// Why Linux misreads what has this number, and what helps.
 fn sentence(number: usize) -> &'static str {
@@ -69,45 +67,6 @@ pub fn explain(reporter: &Reporter<'_>, origin: Origin<'_>, warnings: &Warnings<
     }
 }
 
-/// The number of contents of a planned image that begin at a page and end in a page with other
-/// bytes after them.
-fn shared_pages(plan: &Plan) -> u64 {
-    let mut count = 0u64;
-    for i in 0..plan.sections() {
-        let Some(section) = plan.section(i) else {
-            break;
-        };
-        let is_content = matches!(section.body, Body::Content { .. });
-        let last = section.len % PAGE;
-        if !is_content || section.place % PAGE != 0 || last == 0 {
-            continue;
-        }
-        let end = u64::from(section.place) + u64::from(section.len);
-        let page_end = end + u64::from(PAGE - last);
-        if let Some(next) = plan.section(i.saturating_add(1))
-            && u64::from(next.place) < page_end
-        {
-            count = count.saturating_add(1);
-        }
-    }
-    count
-}
-
-/// Explains for how many files of cramfs Linux does not map the last page.
-pub fn explain_pages(reporter: &Reporter<'_>, plan: &Plan, out: &str) {
-    if !reporter.is_explained() || plan.format().order().is_none() {
-        return;
-    }
-    let count = shared_pages(plan);
-    if count > 0
-        && let Ok(what) = format!(in reporter.rt.alloc();
-            "files at a multiple of 4096 whose last page has other data, too, so that Linux copies this page: {count}; romtool linux --advice lists them"
-        )
-    {
-        reporter.explain(out.as_bytes(), &what);
-    }
-}
-
 /// Explains by how many bytes an image would be too large.
 pub fn explain_size(reporter: &Reporter<'_>, out: &str, len: u64, most: u64) {
     let more = len.saturating_sub(most);
@@ -115,5 +74,28 @@ pub fn explain_size(reporter: &Reporter<'_>, out: &str, len: u64, most: u64) {
         "the image would have {len} bytes, {more} more than {most}"
     ) {
         reporter.explain(out.as_bytes(), &what);
+    }
+}
+
+/// Why Linux does not execute a program in place, and what helps.
+fn reason_sentence(reason: Reason) -> &'static str {
+    match reason {
+        Reason::Unaligned =>
+            "Linux copies a program whose first byte is not at the front of a page; \
+              give the line ALIGN 4096",
+        Reason::Scattered => "Linux copies a program that is not in one piece",
+        Reason::Unloadable => "Linux does not load one of its segments; link it for pages of 4,096 \
+              bytes",
+        Reason::Table => "its program headers are none that Linux loads",
+        Reason::Romfs => "Linux with an MMU executes nothing of romfs in place; use cramfs",
+        Reason::TextRelocations => "the dynamic linker writes into its text; compile it with -fPIC",
+    }
+}
+
+/// Explains why a program would not be executed in place.
+pub fn explain_unplaced(reporter: &Reporter<'_>, origin: Origin<'_>, found: Unplaced<'_>) {
+    let (alloc, line) = (reporter.rt.alloc(), found.line);
+    if let Ok(place) = format!(in alloc; "{}:{line}", origin.name) {
+        reporter.explain(place.as_bytes(), &reason_sentence(found.reason));
     }
 }

@@ -78,6 +78,10 @@ pub const NO_PREFIX: &str =
 pub const MISREAD: &str =
     "it is valid, but Linux misreads what these lines name; see docs/LINUX.md";
 
+/// A program in a valid image is not, or not wholly, executed in place.
+pub const NOT_IN_PLACE: &str =
+    "Linux does not execute all of these programs in place; see docs/LINUX.md";
+
 /// A directory that is to be filled is not empty.
 pub const NOT_EMPTY: &str = "it is not empty";
 
@@ -92,6 +96,9 @@ pub const OPEN_TO_OTHERS: &str =
 /// Another user made the link to the directory, or may replace it.
 pub const LINK_OF_ANOTHER: &str =
     "it is a link that another user made or may replace: name the directory itself";
+
+/// A file system on the block device is mounted.
+pub const MOUNTED: &str = "a file system on this device is mounted: unmount it first";
 
 /// The directory that was being filled is incomplete.
 pub const INCOMPLETE: &str = "it is incomplete; the files that were made in it are still there";
@@ -132,6 +139,9 @@ pub const OWN_FILE: &str = "it is a file that the manifest lists, or the file of
 
 /// The manifest has the name of standard output.
 pub const OWN_STREAM: &str = "it is the file that standard output is written to";
+
+/// The file of a result is standard error.
+pub const OWN_ERROR: &str = "it is the file that standard error is written to";
 
 /// The system refused a part of a manifest.
 pub const MANIFEST_NOT_TAKEN: &str = "not all of the manifest could be written to it";

@@ -32,3 +32,9 @@ returns-clause-built_under c = λ limits f text contents bytes r₀ r w₀ w o b
 pub returns-clause-mapped : goal.returns-clause-mapped
 returns-clause-mapped c = λ f text contents bytes m image b e tree.
     placed_opened image m (c.built_is_placed.ensures.runs f text contents bytes m b e image.tree tree)
+
+pub returns-clause-in_place : goal.returns-clause-in_place
+returns-clause-in_place c = λ o text contents bytes m t f b e h held. (
+  c.built_is_in_place.ensures o text contents bytes m t f b e h held,
+  c.built_is_mapped_whole.ensures o text contents bytes m t f b e h held,
+)

@@ -28,3 +28,9 @@ returns-clause-placed c = λ text p known old new is s.
 pub returns-clause-mapped : goal.returns-clause-mapped
 returns-clause-mapped c = λ text p known old new image is s tree.
     placed_opened image is.lines (c.streamed_is_placed.ensures.runs text p known old new image.tree is s tree)
+
+pub returns-clause-in_place : goal.returns-clause-in_place
+returns-clause-in_place c = λ o text p known old new t f is e s h held. (
+  c.streamed_is_in_place.ensures.in_place o text p known old new t f is e s h held,
+  c.streamed_is_in_place.ensures.whole o text p known old new t f is e s h held,
+)

@@ -1,20 +1,25 @@
-use Rattle.std.proofs.Common.{◌≡◌, ◌^◌, inr, subst}
-use Rattle.cramfs_format.specs.Tree.{CramfsTree}
-use Rattle.formats.specs.Format.{Format}
-use Rattle.image_build.specs.Accepted.{usual}
-use Rattle.image_build.specs.Streamed.{image_with}
-use Rattle.manifest_layout.specs.Format.{HasUsualTree}
-use Rattle.rom_tree.specs.Tree.{Node}
-use Rattle.built_in_place.proofs.Built.{in_place}
+use Rattle.std.proofs.Common.{◌≡◌, Ok, sym, subst}
+use Rattle.cramfs_format.specs.declared.order.Order.{Order}
+use Rattle.formats.specs.Format.{Format, cramfs}
+use Rattle.image_build.specs.Builds.{Builds}
+use Rattle.image_build.specs.Streamed.{HasNoCopies, image_with}
+use Rattle.manifest.specs.Lines.{ManifestLines}
 use Rattle.built_in_place.proofs.laws.streamed_is_in_place.Goals as goal
 
-pub returns : goal.returns
-returns c = λ o text p known old new t f is e w little h held.
+-- in cramfs no source is read twice
+no_copies : (g : Format) (o : Order) (m : ManifestLines) → g ≡ cramfs o → HasNoCopies g m
+no_copies g o m e = subst (λ (k : Format). HasNoCopies k m) (sym e) tt
+
+pub returns-clause-in_place : goal.returns-clause-in_place
+returns-clause-in_place c = λ o text p known old new t f is e w h held.
     let bytes = image_with p w.rest in
-    let holds = c.streamed_is_placed.ensures.holds text p known old new is w in
-    let tree : CramfsTree o bytes (2 ^ 20) 64 holds.0 =
-    subst (λ (g : Format). HasUsualTree g bytes holds.0) e holds.1 in
-    let same : holds.0 ≡ t = c.one_tree.ensures bytes usual usual holds.0 t (inr (o, tree)) h in
-    in_place c.aligned_is_in_place.ensures o bytes is.lines t f
-    (subst (λ (v : Node). CramfsTree o bytes (2 ^ 20) 64 v) same tree) little held
-    (c.streamed_is_placed.ensures.runs text p known old new t is w h)
+    let b = c.streamed_is_accepted.ensures.built text p known old new is (no_copies p.format o is.lines e) w in
+    c.built_is_in_place.ensures o text b.contents bytes is.lines t f
+    (subst (λ (k : Format). Builds k text b.contents (Ok bytes)) e b.built) is.manifest h held
+
+pub returns-clause-whole : goal.returns-clause-whole
+returns-clause-whole c = λ o text p known old new t f is e w h held.
+    let bytes = image_with p w.rest in
+    let b = c.streamed_is_accepted.ensures.built text p known old new is (no_copies p.format o is.lines e) w in
+    c.built_is_mapped_whole.ensures o text b.contents bytes is.lines t f
+    (subst (λ (k : Format). Builds k text b.contents (Ok bytes)) e b.built) is.manifest h held
