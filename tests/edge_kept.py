@@ -50,7 +50,7 @@ def on_part(made):
 
 @needs_strace
 def one_descriptor(binary):
-    """The part is written, synchronized to the disk, closed and renamed, in this order, through one descriptor."""
+    """The part is written, synchronized to the disk, loses its mark, is closed and renamed, in this order, through one descriptor."""
     hello()
     for format in FORMATS:
         for old in (None, b"old"):
@@ -59,7 +59,11 @@ def one_descriptor(binary):
             made, done = traced.calls(binary, "build", format, "m", "out")
             calls = [it.name for it in on_part(made)]
             writes = [it for it in calls if it != "write"]
-            if done.returncode or writes[-4:] != ["fsync", "statx", "close", "rename"] or calls.count("close") != 1:
+            if (
+                done.returncode
+                or [it for it in writes if it != "statx"][-4:] != ["fsync", "fchmod", "close", "rename"]
+                or calls.count("close") != 1
+            ):
                 yield "%s, %r: %r" % (format, old, calls)
             if "fcntl" in calls or calls.index("fsync") < max(at for at, it in enumerate(calls) if it == "write"):
                 yield "%s, %r: %r" % (format, old, calls)
