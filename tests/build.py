@@ -192,7 +192,7 @@ def source_changes(binary):
                     break
             if answer(done) != (b"", b"changed\n", 3):
                 yield "%s: %r" % (format, answer(done))
-            if bytes_in("out") != b"as it was" or os.path.exists("out.0.part"):
+            if bytes_in("out") != b"as it was" or os.path.exists(".out.romtool-0.part"):
                 yield "%s: something was written" % format
 
 

@@ -3,9 +3,8 @@
 
     c.py [--binary PATH] [--library PATH]
 
-The library is what `rt lib` builds of crates/rom_c, if no other is given; it is proved first if that has not been
-done. The programs of c/ are compiled with every warning as an error, and with AddressSanitizer and UBSan if the
-compiler has them.
+The library is what tools/library builds of crates/rom_c, if no other is given. The programs of c/ are compiled with every
+warning as an error, and with AddressSanitizer and UBSan if the compiler has them.
     answers.c  answers `check`, `list` and `serve` on the cases (see run.py) as romtool does, except for lines that ask for
                nothing, and on one directory that is built in each format
     closed.c   each call on handles that are zeroed or refused, and with NULL for no bytes
@@ -86,10 +85,10 @@ def library(given, counts):
     """Returns the archive, which is built if none is given; or nothing."""
     if given:
         return os.path.abspath(given)
-    done = said([os.path.join(TOP, "tools", "rt"), "lib"], cwd=CRATE)
+    done = said([os.path.join(TOP, "tools", "library")])
     archive = os.path.join(CRATE, "out", "librom_c.a")
     if done.returncode or not os.path.exists(archive):
-        counts.fails("rt lib in crates/rom_c", done.stdout.decode(errors="replace").splitlines()[-20:])
+        counts.fails("tools/library", done.stdout.decode(errors="replace").splitlines()[-20:])
         return None
     return archive
 
@@ -99,10 +98,10 @@ def other_library(words, top, counts):
     archive, kept = os.path.join(CRATE, "out", "librom_c.a"), os.path.join(top, "librom_c.a")
     shutil.copy2(archive, kept)
     try:
-        done = said([os.path.join(TOP, "tools", "rt"), "lib", *words], cwd=CRATE)
+        done = said([os.path.join(TOP, "tools", "library"), *words])
         if done.returncode == 0:
             return shutil.copy2(archive, os.path.join(top, words[-1] + ".a"))
-        counts.fails("rt lib %s" % words, done.stdout.decode(errors="replace").splitlines()[-20:])
+        counts.fails("tools/library %s" % words, done.stdout.decode(errors="replace").splitlines()[-20:])
         return None
     finally:
         shutil.copy2(kept, archive)
@@ -468,7 +467,7 @@ def on_old_processor(binary, top, counts):
 
 def main():
     reads = parser("Build the library for C, and look that programs over it answer as romtool does.")
-    reads.add_argument("--library", help="the archive, if not the one that `rt lib` builds")
+    reads.add_argument("--library", help="the archive, if not the one that tools/library builds")
     arguments, counts = reads.parse_args(), Counts()
     if tool := missing("cc", "rt"):
         counts.skips("the library for C: there is no %s" % tool)

@@ -10,7 +10,6 @@ if it is missing. The last line is `N passed, M failed`, with `, K skipped`.
 
 import collections
 import contextlib
-import fcntl
 import itertools
 import os
 import re
@@ -23,7 +22,7 @@ import time
 
 import rooms
 import traced
-from files import bytes_in, innermost, put, wait_until
+from files import bytes_in, innermost, put
 from romtool import FORMATS, answer, run
 from rooms import NOBODY, become_nobody, needs_root
 from traced import needs_strace
@@ -51,6 +50,17 @@ def wanted(binary, format="romfs", at="."):
 def parts(at="."):
     """Returns the files of a directory that were to become images."""
     return sorted(name for name in os.listdir(at) if name.endswith(".part"))
+
+
+def part(number):
+    """Returns the name of a part of `out`."""
+    return ".out.romtool-%d.part" % number
+
+
+def leave(name, held):
+    """Makes a part as an interrupted build leaves it: with its mark, the sticky bit."""
+    put(name, held)
+    os.chmod(name, 0o1600)
 
 
 # OUT and its part
@@ -116,8 +126,8 @@ def private_while_written(binary):
         put("out", b"old")
         os.chmod("out", mode)
         made, done = traced.calls(binary, "build", "romfs", "m", "out")
-        opened = [call.text for call in made if '"out.0.part", O_WRONLY' in call.text and call.name == "openat"]
-        if done.returncode or len(opened) != 1 or ", 0600)" not in opened[0]:
+        opened = [call.text for call in made if '".out.romtool-0.part", O_WRONLY' in call.text and call.name == "openat"]
+        if done.returncode or len(opened) != 1 or ", 01600)" not in opened[0]:
             yield "%o: %r" % (mode, opened)
         if stat.S_IMODE(os.stat("out").st_mode) != mode:
             yield "%o became %o" % (mode, os.stat("out").st_mode)
@@ -175,7 +185,7 @@ def steps_of(made):
         step = None
         if opened:
             name, flags, number = opened.groups()
-            is_part = name == "out.0.part" and {"O_WRONLY", "O_CREAT", "O_EXCL"} <= set(flags.split("|"))
+            is_part = name == part(0) and {"O_WRONLY", "O_CREAT", "O_EXCL"} <= set(flags.split("|"))
             files[number] = "part" if is_part else "directory" if name == "." else None
             step = "create part" if is_part else "create " + name if "O_CREAT" in flags else None
         elif changed:
@@ -195,7 +205,7 @@ def calls_of_a_replacement(binary):
     """A build makes the calls of which the replacement is proved, in this order, and no other on these files."""
     hello()
     begun = ["create part", "write part", "fsync part", "close part"]
-    renamed, removed, synced = 'rename "out.0.part", "out"', 'unlink "out.0.part"', "fsync directory"
+    renamed, removed, synced = 'rename ".out.romtool-0.part", "out"', 'unlink ".out.romtool-0.part"', "fsync directory"
     for old in (None, b"old"):
         for fault, when, steps in (
             (None, 0, [renamed, synced]),
@@ -252,96 +262,6 @@ def held_up(binary, format, call, when, prepare):
     return held.answer
 
 
-@needs_strace
-def part_of_another_file(binary):
-    """If the part's name leads to another file, or to none, nothing is renamed and nothing removed."""
-    hello()
-
-    def take_away():
-        os.rename("out.0.part", "aside")
-        if stranger:
-            put("out.0.part", stranger)
-
-    def prepare():
-        put("out", b"as it was")
-        return take_away
-
-    for stranger in (b"stranger", None):
-        told = held_up(binary, "romfs", "fsync", 1, prepare)
-        left = bytes_in("out.0.part") if os.path.exists("out.0.part") else None
-        if told != (b"", b"changed\n", 3) or bytes_in("out") != b"as it was" or left != stranger:
-            yield "%r: %r, %r" % (stranger, told, left)
-        for name in ("aside", *parts()):
-            os.remove(name)
-
-
-def parts_that_are_held(binary):
-    """A part that a process has locked is skipped; a hundred of them end a build, and stay."""
-    hello()
-    image = wanted(binary)
-    with contextlib.ExitStack() as held:
-        for number in range(99):
-            hold(held, "out.%d.part" % number)
-        done = run(binary, "build", "romfs", "m", "out")
-        if answer(done) != (b"ok 1024\n", b"", 0) or bytes_in("out") != image or len(parts()) != 99:
-            yield "99: %r" % (answer(done),)
-        hold(held, "out.99.part")
-        done = run(binary, "build", "romfs", "m", "out")
-        if answer(done) != (b"", b"file out\n", 3) or bytes_in("out") != image or len(parts()) != 100:
-            yield "100: %r" % (answer(done),)
-
-
-def hold(held, name):
-    """Makes a part, and locks it as a build does."""
-    part = held.enter_context(open(name, "wb"))
-    fcntl.flock(part, fcntl.LOCK_EX)
-
-
-def parts_that_are_left(binary):
-    """Parts that no process has locked are removed, and others stay: those with a lock, links, and files of two names."""
-    hello()
-    image = wanted(binary)
-    for number in range(100):
-        put("out.%d.part" % number, b"left")
-    done = run(binary, "build", "romfs", "m", "out")
-    if answer(done) != (b"ok 1024\n", b"", 0) or bytes_in("out") != image or parts():
-        yield "100: %r, %r" % (answer(done), parts())
-    put("kept", b"kept")
-    for number in (0, 2, 4, 6):
-        put("out.%d.part" % number, b"left")
-    os.symlink("kept", "out.1.part")
-    os.link("kept", "out.3.part")
-    with contextlib.ExitStack() as held:
-        hold(held, "out.5.part")
-        done = run(binary, "build", "romfs", "m", "out")
-    names = ["out.1.part", "out.3.part", "out.5.part"]
-    if answer(done) != (b"ok 1024\n", b"", 0) or parts() != names or bytes_in("kept") != b"kept":
-        yield "mixed: %r, %r" % (answer(done), parts())
-    for name in names:
-        os.remove(name)
-
-
-def inputs_with_the_names_of_parts(binary):
-    """A source, a manifest and standard output stay, even if they have the name of a part. Another name is taken then."""
-    for manifest in ("m", "out.1.part"):
-        hello()
-        put("out.0.part", b"precious")
-        put(manifest, b"file /a 0644 0 0 4 out.0.part\n")
-        with open("out.2.part", "wb") as output:
-            done = run(binary, "build", "romfs", manifest, "out", stdout=output)
-        held = {name: bytes_in(name) for name in parts()}
-        wanted = {"out.0.part": b"precious", "out.2.part": b"ok 1024\n"}
-        if manifest != "m":
-            wanted[manifest] = b"file /a 0644 0 0 4 out.0.part\n"
-        if done.returncode or held != wanted or b"precious" not in bytes_in("out"):
-            yield "%s: %r, %r" % (manifest, done, held)
-    os.mkdir("d")
-    put("d/list.0.part", b"x")
-    done = run(binary, "scan", "--all", "-o", "d/list", "d")
-    if answer(done) != (b"", b"", 0) or sorted(os.listdir("d")) != ["list", "list.0.part"]:
-        yield "scan: %r, %r" % (answer(done), os.listdir("d"))
-
-
 @needs_root
 def bits_that_a_write_clears(binary):
     """An ordinary user's file keeps the bits that lend rights, though each write clears them."""
@@ -387,26 +307,6 @@ def root_that_may_not_be_listed(binary):
     done = subprocess.run(words, stdin=subprocess.DEVNULL, capture_output=True)
     if done.returncode or not done.stdout.startswith(b"romtool "):
         yield repr(done)
-
-
-def part_of_a_killed_build(binary):
-    """What a build leaves that is killed, the next one removes; what one is at, the next one does not."""
-    hello()
-    os.mkfifo("pipe")
-    put("late", b"file /a 0644 0 0 4 source\n")
-    put("source", b"x" * (8 << 20))
-    for number in range(20):
-        process = subprocess.Popen([binary, "build", "cramfs", "late", "out"], stdout=subprocess.DEVNULL)
-        wait_until(lambda process=process: parts() or process.poll() is not None, 0.0005)
-        was = parts()
-        second = run(binary, "build", "cramfs", "late", "out")
-        process.kill()
-        process.wait()
-        if second.returncode or len(parts()) > 1:
-            yield "%d: %r, %r, %r" % (number, answer(second), was, parts())
-        run(binary, "build", "cramfs", "late", "out")
-        if parts():
-            yield "%d: %r is left" % (number, parts())
 
 
 # sources
@@ -788,8 +688,7 @@ TESTS = [
     folder_that_is_no_text, folder_that_is_too_long, link_to_a_closed_stream, out_that_is_read,
     private_while_written, owner_is_kept, owner_that_cannot_be_set, handed_to_the_disk,
     calls_of_a_replacement, kinds_that_are_not_handed_on,
-    folder_that_is_not_handed_on, part_of_another_file, parts_that_are_held, parts_that_are_left,
-    part_of_a_killed_build, inputs_with_the_names_of_parts, bits_that_a_write_clears, out_behind_forty_links,
+    folder_that_is_not_handed_on, bits_that_a_write_clears, out_behind_forty_links,
     root_that_may_not_be_listed,
     rewritten_while_read, changed_while_read, no_further_than_stated, image_from_a_pipe, device_without_end,
     what_follows_the_last_line, lines_of_a_file_are_read_in_blocks,

@@ -622,10 +622,10 @@ def files_of_one_number(binary):
 
 
 def manifest_over_its_output(binary):
-    """`-o` does not replace the file of standard output, nor remove it as an old part. A pipe is written."""
+    """`-o` does not replace the file of standard output or of standard error, nor remove it as an old part. A pipe is written."""
     os.mkdir("in")
     put("in/a", b"a")
-    for name, of in (("/dev/stdout", "kept"), ("kept", "kept"), ("m", "m.0.part")):
+    for name, of in (("/dev/stdout", "kept"), ("kept", "kept"), ("m", ".m.romtool-0.part")):
         put(of, b"kept")
         with open(of, "ab") as output:
             done = run(binary, "scan", "--all", "-o", name, "in", stdout=output)
@@ -634,6 +634,12 @@ def manifest_over_its_output(binary):
             yield "%s: %r" % (name, answer(done))
     if bytes_in("m") != wanted(["scan", "--all"]):
         yield "%r" % bytes_in("m")
+    for words in (["scan", "--all", "-o", "/dev/stderr", "in"], ["build", "romfs", "m", "/dev/stderr"]):
+        put("log", b"kept\n")
+        with open("log", "ab") as log:
+            done = run(binary, *words, stderr=log)
+        if done.returncode != 3 or bytes_in("log") != b"kept\nfile /dev/stderr\n":
+            yield "%r: %r, %r" % (words, done, bytes_in("log"))
     done = run(binary, "scan", "--all", "-o", "/dev/stdout", "in")
     if answer(done) != (wanted(["scan", "--all"]), b"", 0):
         yield "a pipe: %r" % (answer(done),)

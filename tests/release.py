@@ -178,7 +178,7 @@ def made_twice(given, top, counts):
     """Makes the release twice, by users with other habits, and returns its directory; nothing if it cannot be made."""
     folders = [top + "/one", top + "/another-one"]
     for it, umask, zone in zip(folders, (0o022, 0o077), ("UTC", "Pacific/Chatham")):
-        # after `./test --plain` the program may have to be proved once more
+        # if no object file was kept, the program has to be proved once more
         how = {"umask": umask, "env": {**os.environ, "TZ": zone}, "timeout": 7200}
         if works(counts, [TOOLS + "/release", "--changed", *given, it], **how) is None:
             return None
@@ -363,7 +363,7 @@ def lacks(library, is_trial):
         return "there is no %s" % tool
     if ran(["cc", "-print-file-name=libc.a"])[1].strip() == "libc.a":
         return "there is no static C library (libc6-dev)"
-    return None if os.path.exists(library) else "there is no %s: `tools/rt lib` in crates/rom_c builds it" % library
+    return None if os.path.exists(library) else "there is no %s: tools/library builds it" % library
 
 
 def main():

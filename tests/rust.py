@@ -82,7 +82,7 @@ def images(binary, answers, top, names, counts):
 
 def main():
     reads = parser("Test the crate for Rust over the library for C.")
-    reads.add_argument("--library", help="the archive, if not the one that `rt lib` builds")
+    reads.add_argument("--library", help="the archive, if not the one that tools/library builds")
     arguments, counts = reads.parse_args(), Counts()
     if tool := missing("cargo", "rt"):
         counts.skips("the crate for Rust: there is no %s" % tool)

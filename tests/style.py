@@ -93,7 +93,7 @@ def wrong_in_edit(path):
 def scripts():
     """Returns the Python of the repository, by its paths: files that end in `.py`, and programs whose first line names python3."""
     found = []
-    for path in sorted(it for folder in FOLDERS for it in glob.glob("%s/%s/*" % (TOP, folder)) if os.path.isfile(it)):
+    for path in sorted([TOP + "/test", *(it for folder in FOLDERS for it in glob.glob("%s/%s/*" % (TOP, folder)) if os.path.isfile(it))]):
         with open(path, "rb") as file:
             is_script = path.endswith(".py") or file.readline().endswith(b"python3\n")
         if is_script:

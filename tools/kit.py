@@ -1,7 +1,7 @@
 """What the tools use of the toolchain: its `rt` as a module, and the kit that they were made for.
 
-The tools replace parts of `rt` by the names of its functions, so they work with one kit only. With another kit
-they report this, and run the toolchain's own `rt` instead.
+The tools call parts of `rt` by the names of its functions, so they work with one kit only. With another kit they report
+this, and run the toolchain's own `rt` instead.
 """
 
 import importlib.machinery

@@ -1,4 +1,4 @@
-//! Says where the archive of the library is: in the directory `ROMTOOL_LIB_DIR`, or where `rt lib` leaves it.
+//! Says where the archive of the library is: in the directory `ROMTOOL_LIB_DIR`, or where tools/library leaves it.
 
 use std::env;
 use std::path::PathBuf;
@@ -13,7 +13,7 @@ fn main() {
         }
     };
     let archive = folder.join("librom_c.a");
-    assert!(archive.is_file(), "{} is missing: run `tools/rt lib` in crates/rom_c", archive.display());
+    assert!(archive.is_file(), "{} is missing: run tools/library", archive.display());
     println!("cargo:rerun-if-changed={}", archive.display());
     println!("cargo:rustc-link-search=native={}", folder.display());
     println!("cargo:rustc-link-lib=static=rom_c");

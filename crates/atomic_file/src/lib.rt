@@ -17,10 +17,6 @@ mod keeping;
 pub mod laws;
 mod names;
 mod replacing;
-#[cfg(test)]
-mod simulated;
-#[cfg(test)]
-mod tests;
 
 pub use account::{Account, Answer, Answered, Asked};
 pub use beginning::{Begun, Unbegun, abandon, begin};

@@ -8,7 +8,5 @@
 
 pub mod laws;
 mod printing;
-#[cfg(test)]
-mod tests;
 
 pub use printing::{PrintError, print_walked};

@@ -2,4 +2,3 @@ mod Orders
 mod Taken
 mod Walks
 mod Moved
-mod Known

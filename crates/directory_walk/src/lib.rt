@@ -8,16 +8,10 @@
 //! one that the lister returned, with the path of the directory that it was asked to list.
 #![tactic(auto)]
 
-#[cfg(test)]
-mod fixed;
 pub mod laws;
 mod lister;
-#[cfg(test)]
-mod simulated;
 mod sorting;
 mod taking;
-#[cfg(test)]
-mod tests;
 mod walking;
 
 pub use lister::{Directory, Entry, Listed, Lister};

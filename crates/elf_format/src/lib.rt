@@ -13,8 +13,6 @@ mod loading;
 mod mapped;
 mod numbers;
 mod program;
-#[cfg(test)]
-mod tests;
 
 pub use dynamic::moves_text;
 pub use error::ElfError;

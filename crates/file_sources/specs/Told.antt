@@ -2,8 +2,8 @@
 -- offset. `Tells`: these were added to a log. `IsLogOf`: the log of the files of these names, by
 -- their numbers. `contents_of_all`: what the files of these names hold.
 -- `AreOfNames`: what was told is of files that hold their names. (This project's own.)
-use Rattle.std.specs.Prelude.{◌≡◌, ℕ, List, [], ◌∷◌, ◌++◌, map, take, drop, length, get_or, Option, option_map}
-use Rattle.std.specs.Prelude.{Result, Ok, Err}
+use Rattle.std.specs.Prelude.{◌≡◌, ℕ, List, [], ◌∷◌, ◌++◌, map, take, drop, length, get_or}
+use Rattle.std.specs.Prelude.{Option, option_map, Result, Ok, Err}
 use Rattle.image_stream.specs.Answers.{Answer}
 
 -- the bytes that a read of a file told, the name by which it was opened, and their offset in it

@@ -12,8 +12,6 @@ mod memory;
 mod opener;
 mod reading;
 mod sources;
-#[cfg(test)]
-mod tests;
 
 pub use memory::{InMemory, in_memory};
 pub use opener::Opener;

@@ -18,12 +18,8 @@ mod pieces;
 mod segmented;
 mod sink;
 mod slices;
-#[cfg(test)]
-mod small;
 mod sources;
 mod streaming;
-#[cfg(test)]
-mod tests;
 mod word_sum;
 mod writing;
 

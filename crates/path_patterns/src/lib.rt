@@ -8,8 +8,6 @@
 mod matching;
 mod pattern;
 mod reading;
-#[cfg(test)]
-mod tests;
 
 pub use matching::matches;
 pub use pattern::{Piece, Range, Set};

@@ -14,8 +14,6 @@ mod loading;
 mod position;
 mod remembering;
 mod signals;
-#[cfg(test)]
-mod tests;
 
 pub use again::Again;
 pub use ahead::Ahead;

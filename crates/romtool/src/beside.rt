@@ -8,13 +8,13 @@ ghost use Rattle.atomic_file.specs.Log.{Logs};
 
 use crate::closing::close;
 use crate::owner::{lends_rights, take_after};
-use crate::parts::{Lock, lock_part, remove_left};
+use crate::parts::{Lock, MARK, lock_part, part_path, remove_left};
 use crate::stamp::Identity;
 use atomic_file::{Account, Answer, Asked, CreateError, Directory, Durability, LeftError, Names};
 use program_streams::{Held, Remembering};
 use rom_fields::{ByteWrite, Failed, Plain};
-use std::fs::{File, Metadata, OpenFile, OpenOptions};
-use std::os::unix::fs::OpenOptionsExt;
+use std::fs::{File, Metadata, OpenFile, OpenOptions, Permissions};
+use std::os::unix::fs::{MetadataExt, OpenOptionsExt, PermissionsExt};
 use std::{fs, io};
 
 /// The name of the file, and the names of its hundred parts.
@@ -149,8 +149,7 @@ pub struct System<'a> {
 
 /// Returns the path of a part.
 fn path_of(rt: &HostRuntime, whole: &str, name: u32) -> io::Result<String> {
-    let number = name.saturating_sub(NAMES.first);
-    Ok(format!(in rt.alloc(); "{whole}.{number}.part")?)
+    Ok(part_path(rt, whole, name.saturating_sub(NAMES.first))?)
 }
 
 /// Returns the file behind a writer, after all was passed on to it.
@@ -171,12 +170,23 @@ fn into_file(mut part: Writer) -> io::Result<File> {
 fn synced(part: Writer, like: Option<&Metadata>) -> io::Result<(File, Identity)> {
     let file = into_file(part)?;
     match like {
-        Some(found) if lends_rights(found) => take_after(&file, found)?,
+        Some(found) if lends_rights(found) => take_after(&file, found, MARK)?,
         _ => {}
     }
     file.sync_all()?;
     let identity = Identity::of(&file.metadata()?);
     Ok((file, identity))
+}
+
+/// Takes the mark from a part that is about to get its name, unless it is the bit of a file that
+/// the part took after, with its owner. This comes last, so that a part without its mark is left
+/// only if the program is killed right then.
+fn take_mark(file: &File, like: Option<&Metadata>) -> io::Result<()> {
+    let made = file.metadata()?;
+    match like {
+        Some(found) if found.mode() & MARK != 0 && found.uid() == made.uid() => Ok(()),
+        _ => file.set_permissions(Permissions::from_mode(made.mode() & !MARK)),
+    }
 }
 
 /// Returns whether the system refused to synchronize because of the kind of file.
@@ -215,7 +225,7 @@ impl System<'_> {
         let opened = options
             .write(true)
             .create_new(true)
-            .mode(self.beside.mode)
+            .mode(self.beside.mode | MARK)
             .open(self.rt, path);
         match opened {
             Ok(file) => Ok(file),
@@ -269,7 +279,7 @@ impl System<'_> {
         ensures { self.new.beside.account ≡ self.old.beside.account }
     {
         let likened = match &self.beside.like {
-            Some(found) => take_after(file, found),
+            Some(found) => take_after(file, found, MARK),
             None => Ok(()),
         };
         if let Err(e) = likened {
@@ -420,7 +430,11 @@ impl Directory for System<'_> {
     }
 
     fn close(&mut self, part: File) -> Result<(), Failed> {
-        let closed = match close(self.rt, part) {
+        let closed = match take_mark(&part, self.beside.like.as_ref()) {
+            Ok(()) => close(self.rt, part),
+            Err(e) => Err(e),
+        };
+        let closed = match closed {
             Ok(()) => Ok(()),
             Err(e) => Err(KeepError::Refused(e)),
         };

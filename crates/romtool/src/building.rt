@@ -8,10 +8,11 @@ use crate::beside::KeepError;
 use crate::depfile::Rule;
 use crate::disk::{Disk, first_changed};
 use crate::foreseen::{Warnings, foreseen};
-use crate::imaging::Unchanged;
+use crate::imaging::{Late, Unchanged};
 use crate::in_place::{Unknown, first_unplaced};
 use crate::origin::Origin;
 use crate::progress::Progress;
+use crate::reading::TextFile;
 use crate::reporter::Reporter;
 use crate::sources::{joined_names, names_of, sizes_of, stamps_of, texts_of};
 use crate::stamp::{Identity, Stamp, has_changed, let_rest};
@@ -32,7 +33,8 @@ use program_streams::Held;
 use rom_commands::{Ending, Status};
 use rom_fields::{Failed, Plain};
 use sentences::reasons::{
-    NOT_TAKEN, OWN_INPUT, OWN_OUTPUT, PART_REPLACED, SOURCE_CHANGED, SOURCE_UNREAD, SUM_DIFFERS,
+    NOT_TAKEN, OWN_ERROR, OWN_INPUT, OWN_OUTPUT, PART_REPLACED, SOURCE_CHANGED, SOURCE_UNREAD,
+    SUM_DIFFERS,
 };
 use std::{fs, io};
 
@@ -62,7 +64,7 @@ fn text_of(reporter: &Reporter<'_>, name: &str) -> Result<reading::Text, Status>
             explained::returns(reporter, name, &text.bytes);
             Ok(text)
         }
-        Err(e) => Err(reporter.refused(name.as_bytes(), &e)),
+        Err(e) => Err(reporter.unread(name.as_bytes(), &e)),
     }
 }
 
@@ -106,12 +108,22 @@ fn planned(
     }
 }
 
-/// The sources of an image: their names, and the states that they have to keep.
+/// The sources of an image: their names, and the states that they and the manifest have to keep.
 #[derive(Clone, Copy)]
 struct Files<'a> {
     origin: Origin<'a>,
+    manifest: TextFile,
     names: &'a [&'a str],
     stamps: &'a [Stamp],
+}
+
+impl<'a> Files<'a> {
+    /// The name by which the manifest is looked at again, and the state that it has to keep.
+    fn manifest_state(&self) -> (&'a str, Option<Stamp>) {
+        let name: &'a str = self.origin.name;
+        let name = if name == INPUT { reading::INPUT } else { name };
+        (name, self.manifest.stamp)
+    }
 }
 
 impl Files<'_> {
@@ -120,6 +132,14 @@ impl Files<'_> {
         let status = reporter.say(Ending::Changed);
         reporter.explain_source(self.origin, file, &SOURCE_CHANGED);
         status
+    }
+
+    /// Reports what changed while the image was written.
+    fn say_late(&self, reporter: &Reporter<'_>, late: Late) -> Status {
+        match late {
+            Late::Manifest => reporter.changed(self.origin.name.as_bytes(), &SOURCE_CHANGED),
+            Late::Source(file) => self.say_changed(reporter, file),
+        }
     }
 
     /// Reports that a source could not be read as it was: it changed, or the system refused it, for
@@ -183,8 +203,10 @@ impl Inputs<'_> {
     /// Which files these are, standard output, and the file of this name, which is written, too.
     fn identities(&self, rt: &HostRuntime, written: Option<&str>) -> io::Result<Vec<Identity>> {
         let mut all = Vec::new(rt.alloc());
-        if let Some(output) = own_output::identity(rt) {
-            all.push(output)?;
+        for stream in [own_output::identity(rt), own_output::error_identity(rt)] {
+            if let Some(stream) = stream {
+                all.push(stream)?;
+            }
         }
         if let Some(name) = written
             && let Ok(found) = fs::metadata(rt, name)
@@ -210,6 +232,9 @@ fn check_output(reporter: &Reporter<'_>, name: &str, inputs: Inputs<'_>) -> Resu
         }
         if own_output::is_own(reporter.rt, &found) {
             return Err(reporter.failed(name.as_bytes(), &OWN_OUTPUT));
+        }
+        if own_output::is_own_error(reporter.rt, &found) {
+            return Err(reporter.failed(name.as_bytes(), &OWN_ERROR));
         }
     }
     Ok(())
@@ -343,7 +368,12 @@ fn put_image(
     let (target, out) = place;
     let sources = disk_of(rt, plan, files);
     let (names, stamps) = (files.names, files.stamps);
-    let last = Unchanged { rt, names, stamps };
+    let last = Unchanged {
+        rt,
+        manifest: files.manifest_state(),
+        names,
+        stamps,
+    };
     let mut image = PlanImage {
         plan,
         sources,
@@ -362,9 +392,7 @@ fn put_image(
     match filled {
         Ok(()) => Ok(()),
         Err(FillError::NotKept(e)) => Err(say_unkept(reporter, e, out)),
-        Err(FillError::NotWritten(Unwritten::Late(file), _)) => Err(files.say_changed(
-            reporter, file,
-        )),
+        Err(FillError::NotWritten(Unwritten::Late(late), _)) => Err(files.say_late(reporter, late)),
         Err(FillError::NotWritten(Unwritten::Stream(e), reason)) => {
             Err(files.say_unwritten(reporter, e, (unread, reason), out))
         }
@@ -469,12 +497,11 @@ fn write_files(
     asked: Build<'_>,
     plan: &Plan,
     files: Files<'_>,
-    manifest: Option<Identity>,
 ) -> Result<(), Status>
     requires { length plan.now.sizes ≡ length files.names.now }
 {
     let inputs = Inputs {
-        manifest,
+        manifest: files.manifest.identity,
         stamps: files.stamps,
     };
     if let Some(name) = asked.depfile {
@@ -499,14 +526,13 @@ fn write_files(
     }
 }
 
-/// Builds the image of a manifest, whose sources have these names. Its text is in the file of this
-/// identity, if it is in one.
+/// Builds the image of a manifest, whose text is in this file, and whose sources have these names.
 fn build_from(
     reporter: &Reporter<'_>,
     asked: Build<'_>,
     origin: Origin<'_>,
     names: &[&str],
-    manifest: Option<Identity>,
+    manifest: TextFile,
 ) -> Result<Status, Status>
     requires { length names.now ≡ length (sources_of origin.manifest.now.lines) }
 {
@@ -517,11 +543,12 @@ fn build_from(
     let warnings = warnings_of(reporter, asked, origin, &sizes)?;
     let files = Files {
         origin,
+        manifest,
         names,
         stamps: &stamps,
     };
     check_programs(reporter, asked, &plan, files)?;
-    write_files(reporter, asked, &plan, files, manifest)?;
+    write_files(reporter, asked, &plan, files)?;
     let status = say_built(reporter, plan.image_len() as u64);
     warned::explain(reporter, origin, &warnings, "warning: ");
     Ok(status)
@@ -541,7 +568,7 @@ fn build_plain<'a>(
     reporter: &Reporter<'_>,
     asked: Build<'a>,
     manifest: &'a Manifest,
-    identity: Option<Identity>,
+    file: TextFile,
 ) -> Result<Status, Status> {
     let origin = Origin {
         name: asked.manifest,
@@ -550,7 +577,7 @@ fn build_plain<'a>(
         no_follow: asked.no_follow,
     };
     let names = names_of(reporter, origin, manifest.sources())?;
-    build_from(reporter, asked, origin, &names, identity)
+    build_from(reporter, asked, origin, &names, file)
 }
 
 /// Builds the image of a manifest, whose sources have these joined names.
@@ -559,7 +586,7 @@ fn build_joined<'a>(
     asked: Build<'a>,
     joined: &'a [Vec<u8>],
     manifest: &'a Manifest,
-    identity: Option<Identity>,
+    file: TextFile,
 ) -> Result<Status, Status>
     requires { length joined.now ≡ length (sources_of manifest.now.lines) }
 {
@@ -571,7 +598,7 @@ fn build_joined<'a>(
         no_follow: asked.no_follow,
     };
     let names = texts_of(reporter, origin, joined)?;
-    build_from(reporter, asked, origin, &names, identity)
+    build_from(reporter, asked, origin, &names, file)
 }
 
 /// Builds the image of a manifest, whose sources are in a directory.
@@ -580,10 +607,10 @@ fn build_in(
     asked: Build<'_>,
     directory: &str,
     manifest: &Manifest,
-    identity: Option<Identity>,
+    file: TextFile,
 ) -> Result<Status, Status> {
     let joined = joined_names(reporter, directory, manifest.sources())?;
-    build_joined(reporter, asked, &joined, manifest, identity)
+    build_joined(reporter, asked, &joined, manifest, file)
 }
 
 /// Builds what is asked for, and reports the result.
@@ -591,8 +618,8 @@ fn build(reporter: &Reporter<'_>, asked: Build<'_>) -> Result<Status, Status> {
     let text = text_of(reporter, asked.manifest)?;
     let manifest = manifest_of(reporter, asked.manifest, &text.bytes)?;
     match asked.sources {
-        None => build_plain(reporter, asked, &manifest, text.identity),
-        Some(directory) => build_in(reporter, asked, directory, &manifest, text.identity),
+        None => build_plain(reporter, asked, &manifest, text.file),
+        Some(directory) => build_in(reporter, asked, directory, &manifest, text.file),
     }
 }
 

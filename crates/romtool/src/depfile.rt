@@ -1,7 +1,8 @@
-//! The rule for make that a build writes: the files on which an image depends.
+//! The rules for make that a build writes: the files on which an image depends, and a rule without
+//! prerequisites for each source, so that make does not stop if a source was removed.
 //!
-//! GNU make reads a backslash before some bytes as part of a name's spelling, and has no spelling
-//! of some other bytes. A name that it cannot read is refused before anything is written.
+//! GNU make has no spelling of some names, and reads some as something else. A name is accepted
+//! only if it has permitted bytes. Other names are refused before anything is written.
 use crate::reporter::Reporter;
 use crate::target::{Target, is_part_of};
 use rom_commands::{Ending, Status};
@@ -12,38 +13,20 @@ use std::alloc::AllocError;
 /// The text before each name after the first.
 const BETWEEN: &[u8] = b" \\\n  ";
 
-/// Where a name is in a rule.
+/// Where a name is in a rule: before the colon or after it.
 #[derive(Clone, Copy, PartialEq, Eq)]
 enum Place {
-    /// Before the colon.
     Target,
-    /// First after the colon.
-    First,
-    /// Later.
-    Other,
+    Prerequisite,
 }
 
-/// Whether make reads a byte as part of a name only after a backslash.
-fn is_special(byte: u8, place: Place) -> bool {
-    match byte {
-        b' ' | b'#' | b':' | b'*' | b'?' | b'[' => true,
-        b'%' => place == Place::Target,
-        b'\t' | b'|' => place != Place::Target,
-        _ => false,
-    }
-}
+/// The signs that make reads as parts of a name, beside letters, digits and bytes above 127.
+const PLAIN: &[u8] = b"/._-+,@^~]{}'\"\\";
 
-/// Whether make has no spelling of a byte.
-fn is_unsayable(byte: u8, place: Place) -> bool {
-    match byte {
-        b'\n' | b';' => true,
-        b'\t' => place == Place::Target,
-        b'=' => place != Place::Other,
-        _ => false,
-    }
-}
+/// The bytes that make reads as parts of a name after a backslash.
+const SPECIAL: &[u8] = b" #:*?[";
 
-/// The words that make reads as directives before a variable.
+/// The words that make reads as directives if they are alone.
 const DIRECTIVES: [&[u8]; 6] = [
     b"define",
     b"export",
@@ -53,50 +36,40 @@ const DIRECTIVES: [&[u8]; 6] = [
     b"unexport",
 ];
 
-/// Whether make takes a byte for a space between names.
-fn is_gap(byte: u8) -> bool {
-    matches!(byte, b'\r' | 0x0b | 0x0c)
+/// Whether a byte is permitted in a name of a rule.
+fn is_permitted(byte: u8) -> bool {
+    byte.is_ascii_alphanumeric()
+        || byte > 127
+        || byte == b'$'
+        || byte == b'%'
+        || PLAIN.contains(&byte)
+        || SPECIAL.contains(&byte)
 }
 
-/// Whether make can read the first and the last byte of a name.
-fn are_ends_sayable(name: &[u8], place: Place) -> bool {
-    let first = name.first().copied().unwrap_or(b' ');
-    let last = name.last().copied().unwrap_or(b' ');
-    let is_last_gap = is_gap(last) && place != Place::Target;
-    let is_last_sayable = !is_last_gap && !matches!(last, b' ' | b'\t' | b'\\');
-    first != b'~' && !is_gap(first) && is_last_sayable
+/// Whether make reads a byte as part of a name only after a backslash.
+fn is_special(byte: u8, place: Place) -> bool {
+    SPECIAL.contains(&byte) || byte == b'%' && place == Place::Target
 }
 
-/// Whether make takes a name for something else: a target with a special meaning, a directive, or
-/// the value of a variable.
-fn is_special_name(name: &[u8], place: Place) -> bool {
-    let is_value = match name {
-        [b'=', ..] => true,
-        [b'+' | b'!' | b'?' | b':', b'=', ..] => true,
-        _ => false,
-    };
-    match place {
-        Place::Target => match name {
-            [b'.', word @ ..] => word
-                .iter()
-                .all(|byte| byte.is_ascii_uppercase() || *byte == b'_'),
-            _ => false,
-        },
-        Place::First => DIRECTIVES.contains(&name),
-        Place::Other => is_value,
+/// Whether make takes a name for a directive, or for a target with a special meaning.
+fn is_special_name(name: &[u8]) -> bool {
+    match name {
+        [b'.', word @ ..] => word
+            .iter()
+            .all(|byte| byte.is_ascii_uppercase() || *byte == b'_'),
+        _ => DIRECTIVES.contains(&name),
     }
 }
 
-/// Whether make has a spelling of a name.
-fn is_name_sayable(name: &str, place: Place) -> bool {
+/// Whether make has a spelling of a name, before and after a colon.
+fn is_name_sayable(name: &str) -> bool {
     let name = name.as_bytes();
-    let is_group = place == Place::Target && name.ends_with(b"&");
-    let is_member = name.iter().skip(1).any(|byte| *byte == b'(');
-    are_ends_sayable(name, place)
-        && !is_special_name(name, place)
-        && !is_group
-        && !is_member
-        && !name.iter().any(|byte| is_unsayable(*byte, place))
+    let first = name.first().copied().unwrap_or(b'~');
+    let last = name.last().copied().unwrap_or(b' ');
+    first != b'~'
+        && !matches!(last, b' ' | b'\\')
+        && !is_special_name(name)
+        && name.iter().all(|byte| is_permitted(*byte))
 }
 
 /// Adds this number of backslashes.
@@ -139,29 +112,32 @@ pub struct Rule<'a> {
 impl Rule<'_> {
     /// Returns whether make has a spelling of each name.
     pub fn is_sayable(&self) -> bool {
-        let mut place = Place::First;
-        for name in self.manifest.iter().chain(self.sources) {
-            if !is_name_sayable(name, place) {
-                return false;
-            }
-            place = Place::Other;
-        }
-        is_name_sayable(self.out, Place::Target)
+        let mut names = self.manifest.iter().chain(self.sources);
+        is_name_sayable(self.out) && names.all(|name| is_name_sayable(name))
     }
 
-    /// The text of the rule.
+    /// The text of the rules.
     fn text(&self, rt: &HostRuntime) -> Result<Vec<u8>, AllocError> {
         let mut text = Vec::new(rt.alloc());
         add_name(&mut text, self.out, Place::Target)?;
         text.push(b':')?;
-        let mut place = Place::First;
         for name in self.manifest.iter().chain(self.sources) {
             text.extend_from_slice(BETWEEN)?;
-            add_name(&mut text, name, place)?;
-            place = Place::Other;
+            add_name(&mut text, name, Place::Prerequisite)?;
         }
         text.push(b'\n')?;
+        self.add_sources(&mut text)?;
         Ok(text)
+    }
+
+    /// Adds a rule without prerequisites for each source.
+    fn add_sources(&self, text: &mut Vec<u8>) -> Result<(), AllocError> {
+        for name in self.sources {
+            text.push(b'\n')?;
+            add_name(text, name, Place::Target)?;
+            text.extend_from_slice(b":\n")?;
+        }
+        Ok(())
     }
 }
 

@@ -247,7 +247,7 @@ pub fn listed(
 ) -> Result<Vec<NamedFile>, Status> {
     let text = match reading::manifest(reporter.rt, name) {
         Ok(text) => text.bytes,
-        Err(e) => return Err(reporter.refused(name.as_bytes(), &e)),
+        Err(e) => return Err(reporter.unread(name.as_bytes(), &e)),
     };
     let mut listed = match files_of(reporter.rt.alloc(), &text) {
         Ok(listed) => listed,

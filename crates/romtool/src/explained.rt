@@ -1,6 +1,7 @@
 //! What a build explains in words for people: why a manifest is refused, and warnings.
 use crate::beside::Others;
 use crate::origin::Origin;
+use crate::parts::part_path;
 use crate::reporter::Reporter;
 use crate::target::Target;
 use plan_types::Format;
@@ -110,7 +111,7 @@ fn try_parts(reporter: &Reporter<'_>, target: &Target) -> Result<(), AllocError>
         return Ok(());
     };
     let alloc = reporter.rt.alloc();
-    let place = format!(in alloc; "{whole}.0.part")?;
+    let place = part_path(reporter.rt, whole, 0)?;
     if removed > 0 {
         let what = format!(in alloc; "removed parts of interrupted builds: {removed}")?;
         reporter.explain(place.as_bytes(), &what);

@@ -95,7 +95,7 @@ impl Extraction<'_> {
         }
         counts.further = system.further;
         counts.copies = system.copies;
-        match top.end(self.reporter.rt, directory, self.rights(0)) {
+        match top.end(self.rights(0)) {
             Ok(()) => Ok(()),
             Err(e) => Err(self.reporter.refused(directory.as_bytes(), &e)),
         }
@@ -110,7 +110,7 @@ impl Extraction<'_> {
         let mut counts = Counts::default();
         self.try_names(&mut counts)?;
         self.explain_bytes(counts.bytes);
-        let top = match Top::open(reporter.rt, directory) {
+        let top = match Top::enter(reporter.rt, directory) {
             Ok(top) => top,
             Err(e) => return Err(reporter.refused(directory.as_bytes(), &e)),
         };

@@ -3,8 +3,10 @@
 //! It is proved of the account that is kept here that each call was safe and makes a member of the
 //! image, and that all members were made if no call was refused (`tree_extract::extract`). The
 //! proof trusts this file by reading: each method of `Directory` makes the call of the system that
-//! its name says, at the path that `place` returns, and notes what the system returned.
-ghost use Rattle.std.specs.Prelude.{◌≡◌, ◌<◌, ◌++◌, [], List, length, string_bytes, IfOk, OnOk};
+//! its name says, at the path that `place` returns, and notes what the system returned. Such a path
+//! begins at the current directory, which is the one that is filled (`Top::enter`).
+ghost use Rattle.std.specs.Prelude.{◌≡◌, ◌<◌, ◌++◌, [], List, codes, length, string_bytes};
+ghost use Rattle.std.specs.Prelude.{IfOk, OnOk};
 ghost use Rattle.image_check.specs.Any.{any_view};
 ghost use Rattle.image_extract.specs.Members.{members_in};
 ghost use Rattle.tree_extract.specs.Accounts.{log_of, room_of};
@@ -53,7 +55,7 @@ impl<'a> System<'a> {
         ensures extraction { self.new.extraction ≡ self.old.extraction }
         ensures same { self.new.account.answered.items ≡ self.old.account.answered.items }
         ensures room { OnOk result (0 < room_of self.new.account) }
-        ensures place { IfOk result (λ p. string_bytes p ≡ self.old.extraction.directory.now
+        ensures place { IfOk result (λ p. string_bytes p ≡ codes "."
             ++ path_at (members_in (any_view self.old.extraction.tree.now.image.now)) index) }
     {
         self.account.reserve()?;

@@ -20,8 +20,8 @@ const MODE_BITS: u32 = 0o7777;
 /// The alignment of a file for which no other one is chosen.
 const USUAL_ALIGN: u32 = 4;
 
-/// The two numbers of a device, which Linux packs into one.
-fn device_of(numbers: u64) -> Device {
+/// Returns the two numbers of a device, which Linux packs into one.
+pub fn device_of(numbers: u64) -> Device {
     let major = ((numbers >> 32) & 0xffff_f000) | ((numbers >> 8) & 0xfff);
     let minor = ((numbers >> 12) & 0xffff_ff00) | (numbers & 0xff);
     Device {

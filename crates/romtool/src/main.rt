@@ -38,6 +38,7 @@ mod inventory;
 mod lister;
 mod making;
 mod members;
+mod mounted;
 mod origin;
 mod overlay;
 mod own_output;

@@ -1,14 +1,14 @@
 //! Makes directories, files and links where nothing exists, and syncs them to the disk.
 use crate::closing::close;
 use crate::directories::directory_at;
-use crate::place::directory_of;
+use crate::place::{directory_of, name_in_directory};
 use crate::stamp::Identity;
-use sentences::reasons::{NOT_EMPTY, OF_ANOTHER_USER, REPLACED};
-use std::fs::{self, DirBuilder, File, OpenFile, OpenOptions, Permissions};
-use std::io;
+use sentences::reasons::{LINK_OF_ANOTHER, NOT_EMPTY, OF_ANOTHER_USER, OPEN_TO_OTHERS, REPLACED};
+use std::fs::{self, DirBuilder, File, Metadata, OpenFile, OpenOptions, Permissions};
 use std::os::unix::fs::{
     DirBuilderExt, MetadataExt, OpenOptionsExt, PermissionsExt, fchown, lchown, symlink,
 };
+use std::{env, io};
 
 /// The permissions of a directory while it is filled. Nobody else may read it.
 const PRIVATE_FOLDER: u32 = 0o700;
@@ -21,6 +21,13 @@ const ALL_PERMISSIONS: u32 = 0o777;
 
 /// The name of that file.
 const PROBE: &str = ".romtool-probe";
+
+/// The bits of a mode that let the group and others write. If a directory has an access control
+/// list, the group's bit is that of its mask.
+const WRITABLE_BY_OTHERS: u32 = 0o022;
+
+/// The bit of a directory's mode that lets only owners rename and remove what is in it.
+const STICKY: u32 = 0o1000;
 
 /// Linux's numbers of the errors that mean that a further name of a file cannot be made: `EPERM`,
 /// `EXDEV`, `EMLINK` and `EOPNOTSUPP`.
@@ -129,10 +136,57 @@ pub fn new_name(rt: &HostRuntime, file: &str, place: &str) -> io::Result<bool> {
     }
 }
 
-/// The directory that an image is taken apart into.
+/// Whether other users may replace what is in a directory with these attributes: they may write in
+/// it, and no sticky bit keeps them from the names of others.
+fn is_open_to_others(found: &Metadata) -> bool {
+    found.mode() & WRITABLE_BY_OTHERS != 0 && found.mode() & STICKY == 0
+}
+
+/// Checks that a link in the current directory leads where the owner of the directory behind it, or
+/// root, lets it lead: nobody else may have made the link, or may replace it.
+///
+/// # Errors
+///
+/// The operating system's error; `PermissionDenied` if somebody else may.
+fn check_link(rt: &HostRuntime, link: &Metadata, behind: &Metadata) -> io::Result<()> {
+    let here = fs::metadata(rt, ".")?;
+    let is_trusted = |found: &Metadata| found.uid() == behind.uid() || found.uid() == 0;
+    if is_trusted(link) && is_trusted(&here) && !is_open_to_others(&here) {
+        return Ok(());
+    }
+    Err(io::Error::new(io::ErrorKind::PermissionDenied, LINK_OF_ANOTHER))
+}
+
+/// Makes the directory of this name in the current directory, or finds the existing one, and enters
+/// it. Returns whether it was made.
+fn enter_name(rt: &HostRuntime, name: &str) -> io::Result<bool> {
+    let is_made = match new_directory(rt, name) {
+        Ok(()) => true,
+        Err(e) if e.kind() == io::ErrorKind::AlreadyExists => false,
+        Err(e) => return Err(e),
+    };
+    let found = fs::symlink_metadata(rt, name)?;
+    // a pipe without a writer must not be opened
+    let there = directory_at(rt, name)?;
+    if found.is_symlink() {
+        check_link(rt, &found, &there)?;
+    } else if Identity::of(&found) != Identity::of(&there) {
+        return Err(io::Error::new(io::ErrorKind::NotFound, REPLACED));
+    }
+    env::set_current_dir(rt, name)?;
+    if Identity::of(&fs::metadata(rt, ".")?) != Identity::of(&there) {
+        return Err(io::Error::new(io::ErrorKind::NotFound, REPLACED));
+    }
+    Ok(is_made)
+}
+
+/// The directory that an image is taken apart into. It is the current directory of the process. So
+/// each name of a member is looked up in this directory, wherever the names that lead to it lead.
 #[derive(Drop)]
 pub struct Top {
     directory: File,
+    /// The directory that has the name, if it can be opened.
+    above: io::Result<File>,
     /// Whether it was made; otherwise it existed.
     is_made: bool,
     /// The bits of a mode that the process's mask removes from new files.
@@ -140,32 +194,35 @@ pub struct Top {
 }
 
 impl Top {
-    /// Makes the directory of this name, which nobody else may read; or opens the existing one, if
-    /// it is empty. An existing one has to belong to the user of the process, because its owner
-    /// could replace a new file in it with a link.
+    /// Makes the directory of this name, which nobody else may read; or takes the existing one, if
+    /// it is empty. It becomes the current directory. An existing one has to belong to the user of
+    /// the process, and nobody else may replace what is made in it.
     ///
     /// # Errors
     ///
     /// The operating system's error; `DirectoryNotEmpty`; `PermissionDenied` for another user's
-    /// directory. Then an existing directory is unchanged.
-    pub fn open(rt: &HostRuntime, name: &str) -> io::Result<Top> {
-        let is_made = match new_directory(rt, name) {
-            Ok(()) => true,
-            // a pipe without a writer must not be opened
-            Err(e) if e.kind() == io::ErrorKind::AlreadyExists => {
-                directory_at(rt, name)?;
-                false
-            }
-            Err(e) => return Err(e),
+    /// directory or link, or for a directory in which others may replace files. Then an existing
+    /// directory is unchanged.
+    pub fn enter(rt: &HostRuntime, name: &str) -> io::Result<Top> {
+        let whole = match name.trim_end_matches('/') {
+            "" if !name.is_empty() => "/.",
+            whole => whole,
         };
-        let directory = File::open(rt, name)?;
-        if let Some(entry) = fs::read_dir(rt, name)?.next() {
+        env::set_current_dir(rt, directory_of(whole))?;
+        let above = File::open(rt, ".");
+        let is_made = enter_name(rt, name_in_directory(whole))?;
+        let directory = File::open(rt, ".")?;
+        if let Some(entry) = fs::read_dir(rt, ".")?.next() {
             entry?;
             return Err(io::Error::new(io::ErrorKind::DirectoryNotEmpty, NOT_EMPTY));
         }
-        let masked = masked_in(rt, name, &directory)?;
+        let masked = masked_in(rt, &directory)?;
+        if !is_made && is_open_to_others(&directory.metadata()?) {
+            return Err(io::Error::new(io::ErrorKind::PermissionDenied, OPEN_TO_OTHERS));
+        }
         Ok(Top {
             directory,
+            above,
             is_made,
             masked,
         })
@@ -178,16 +235,19 @@ impl Top {
 
     /// Sets the mode and owner of the directory after it is filled, and syncs it and its name to
     /// the disk. A directory that existed keeps its mode and owner.
-    pub fn end(self, rt: &HostRuntime, name: &str, rights: Rights) -> io::Result<()> {
-        if Identity::of(&fs::metadata(rt, name)?) != Identity::of(&self.directory.metadata()?) {
-            return Err(io::Error::new(io::ErrorKind::NotFound, REPLACED));
+    pub fn end(self, rights: Rights) -> io::Result<()> {
+        let Top {
+            directory,
+            above,
+            is_made,
+            masked: _,
+        } = self;
+        if !is_made {
+            return sync_directory(&directory);
         }
-        if !self.is_made {
-            return sync_directory(&self.directory);
-        }
-        rights.give(&self.directory)?;
-        sync_directory(&self.directory)?;
-        match File::open(rt, directory_of(name.trim_end_matches('/'))) {
+        rights.give(&directory)?;
+        sync_directory(&directory)?;
+        match above {
             Ok(above) => sync_directory(&above),
             // without the right to read the directory above, that one cannot be synced
             Err(e) if e.kind() == io::ErrorKind::PermissionDenied => Ok(()),
@@ -196,21 +256,19 @@ impl Top {
     }
 }
 
-/// The bits of a mode that the process's mask removes from new files in an open directory of this
-/// name, which has to belong to the user of the process. An empty file shows both, and is removed
-/// again.
-fn masked_in(rt: &HostRuntime, name: &str, directory: &File) -> io::Result<u32> {
-    let place = format!(in rt.alloc(); "{}/{PROBE}", name.trim_end_matches('/'))?;
+/// The bits of a mode that the process's mask removes from new files in the current directory. It
+/// has to belong to the user of the process. An empty file shows both, and is removed again.
+fn masked_in(rt: &HostRuntime, directory: &File) -> io::Result<u32> {
     let probe = OpenOptions::new()
         .write(true)
         .create_new(true)
         .mode(ALL_PERMISSIONS)
-        .open(rt, &place)?;
+        .open(rt, PROBE)?;
     let (made, there) = (probe.metadata()?, directory.metadata()?);
-    if Identity::of(&fs::symlink_metadata(rt, &place)?) != Identity::of(&made) {
+    if Identity::of(&fs::symlink_metadata(rt, PROBE)?) != Identity::of(&made) {
         return Err(io::Error::new(io::ErrorKind::NotFound, REPLACED));
     }
-    fs::remove_file(rt, &place)?;
+    fs::remove_file(rt, PROBE)?;
     if made.uid() != there.uid() {
         return Err(io::Error::new(io::ErrorKind::PermissionDenied, OF_ANOTHER_USER));
     }

@@ -1,6 +1,6 @@
 //! The members of an image that is extracted: the path of each in the directory, and the mode and
 //! owner of what is made of it.
-ghost use Rattle.std.specs.Prelude.{◌≡◌, ◌<◌, ◌++◌, length, string_bytes, IfOk};
+ghost use Rattle.std.specs.Prelude.{◌≡◌, ◌<◌, ◌++◌, codes, length, string_bytes, IfOk};
 ghost use Rattle.image_check.specs.Any.{any_view};
 ghost use Rattle.image_extract.specs.Members.{members_in};
 ghost use Rattle.tree_extract.specs.Members.{path_at};
@@ -57,31 +57,32 @@ pub struct Extraction<'a> {
 }
 
 impl Extraction<'_> {
-    /// Returns the path of the member at an index, after the directory's.
-    fn named(&self, index: usize) -> Result<Vec<u8>, AllocError>
+    /// Returns the path of the member at an index, after that of a directory.
+    fn named_in(&self, directory: &str, index: usize) -> Result<Vec<u8>, AllocError>
         requires { index < length (members_in (any_view self.now.tree.now.image.now)) }
-        ensures { IfOk result (λ v. v.items ≡ self.now.directory.now
+        ensures { IfOk result (λ v. v.items ≡ directory.now
             ++ path_at (members_in (any_view self.now.tree.now.image.now)) index) }
     {
         let mut path: ArrayVec<u8, PATH_MAX> = ArrayVec::new();
         self.tree.path(index, &mut path);
         let mut name = Vec::new(self.reporter.rt.alloc());
-        name.extend_from_slice(self.directory.as_bytes())?;
+        name.extend_from_slice(directory.as_bytes())?;
         name.extend_from_slice(path.as_slice())?;
         Ok(name)
     }
 
-    /// Returns the path at which the member at an index is made.
+    /// Returns the path at which the member at an index is made: from the current directory on,
+    /// which is the one that the image is extracted into.
     ///
     /// # Errors
     ///
     /// `OutOfMemory`; `InvalidFilename` if the path is no UTF-8.
     pub fn place(&self, index: usize) -> io::Result<String>
         requires { index < length (members_in (any_view self.now.tree.now.image.now)) }
-        ensures { IfOk result (λ p. string_bytes p ≡ self.now.directory.now
+        ensures { IfOk result (λ p. string_bytes p ≡ codes "."
             ++ path_at (members_in (any_view self.now.tree.now.image.now)) index) }
     {
-        match String::from_utf8(self.named(index)?) {
+        match String::from_utf8(self.named_in(".", index)?) {
             Ok(place) => Ok(place),
             Err(_) => Err(io::Error::new(io::ErrorKind::InvalidFilename, NO_TEXT)),
         }
@@ -111,7 +112,9 @@ impl Extraction<'_> {
     {
         let place = self.place(index)?;
         let longest = place.split('/').map(str::len).max().unwrap_or(0);
-        if longest > LONGEST_NAME || place.len() > LONGEST_PATH {
+        // in the manifest, the path follows that of the directory
+        let whole = place.len().saturating_add(self.directory.len());
+        if longest > LONGEST_NAME || whole > LONGEST_PATH + 1 {
             return Err(io::Error::new(io::ErrorKind::InvalidFilename, NAME_UNFIT));
         }
         match self.tree.kind(index) {
@@ -124,7 +127,7 @@ impl Extraction<'_> {
     pub fn refused(&self, index: usize, e: &io::Error) -> Status
         requires { index < length (members_in (any_view self.now.tree.now.image.now)) }
     {
-        match self.named(index) {
+        match self.named_in(self.directory, index) {
             Ok(name) => self.reporter.refused(&name, e),
             Err(_) => self.reporter.say(Ending::Memory),
         }

@@ -34,13 +34,14 @@ fn take_owner(file: &File, found: &Metadata) -> u32 {
     }
 }
 
-/// Gives a new file the owner, the group and the permissions of another one.
+/// Gives a new file the owner, the group and the permissions of another one, and further bits of a
+/// mode.
 ///
 /// # Errors
 ///
-/// That of the system.
-pub fn take_after(file: &File, found: &Metadata) -> io::Result<()> {
+/// The operating system's error.
+pub fn take_after(file: &File, found: &Metadata, more: u32) -> io::Result<()> {
     let mut permissions = found.permissions();
-    permissions.set_mode(take_owner(file, found));
+    permissions.set_mode(take_owner(file, found) | more);
     file.set_permissions(permissions)
 }

@@ -16,7 +16,7 @@ use program_streams::Again;
 use rom_commands::{Ending, Status};
 use rom_fields::{Failed, Plain};
 use sentences::reasons::{
-    KINDS_DIFFER, LONG_NAME, MANIFEST_NOT_TAKEN, OWN_FILE, OWN_STREAM, PART_REPLACED,
+    KINDS_DIFFER, LONG_NAME, MANIFEST_NOT_TAKEN, OWN_ERROR, OWN_FILE, OWN_STREAM, PART_REPLACED,
 };
 use std::fs;
 use std::io::{self, BufWriter};
@@ -93,7 +93,7 @@ fn inputs_of(
 }
 
 /// Opens the target for the manifest. It is neither a file that the manifest is made of, nor a file
-/// that is standard output.
+/// that is standard output or standard error.
 fn target_of(
     reporter: &Reporter<'_>,
     name: &str,
@@ -112,11 +112,16 @@ fn target_of(
         if there.is_file() && own_output::is_own(rt, &there) {
             return Err(reporter.failed(name.as_bytes(), &OWN_STREAM));
         }
+        if there.is_file() && own_output::is_own_error(rt, &there) {
+            return Err(reporter.failed(name.as_bytes(), &OWN_ERROR));
+        }
     }
-    if let Some(output) = own_output::identity(rt)
-        && inputs.push(output).is_err()
-    {
-        return Err(reporter.say(Ending::Memory));
+    for stream in [own_output::identity(rt), own_output::error_identity(rt)] {
+        if let Some(stream) = stream
+            && inputs.push(stream).is_err()
+        {
+            return Err(reporter.say(Ending::Memory));
+        }
     }
     match Target::open(rt, name, inputs) {
         Ok(target) => Ok(target),

@@ -1,9 +1,47 @@
-//! Parts of builds. A build locks its part, so a part without a lock was left by an interrupted
-//! build.
+//! Parts of builds: their names, their mark and their lock. A build marks its part and locks it. So
+//! a file with the name and the mark of a part and without a lock was left by an interrupted build.
+use crate::place::name_in_directory;
 use crate::stamp::Identity;
+use std::alloc::AllocError;
 use std::fs::{File, OpenFile, TryLockError};
 use std::os::unix::fs::MetadataExt;
 use std::{fs, io};
+
+/// The mark of a part: the sticky bit of its mode. For regular files it has no other use in Linux.
+pub const MARK: u32 = 0o1000;
+
+/// What is between the name of a file and the number of its part.
+const BEFORE_NUMBER: &[u8] = b".romtool-";
+
+/// Returns the path of the part of this number of a file: `.NAME.romtool-NUMBER.part`, beside it.
+pub fn part_path(rt: &HostRuntime, whole: &str, number: u32) -> Result<String, AllocError> {
+    let alloc = rt.alloc();
+    match whole.rsplit_once('/') {
+        Some((directory, name)) => {
+            format!(in alloc; "{directory}/.{name}.romtool-{number}.part")
+        }
+        None => format!(in alloc; ".{whole}.romtool-{number}.part"),
+    }
+}
+
+/// What is behind a text, if the bytes begin with it.
+fn behind<'a>(bytes: &'a [u8], text: &[u8]) -> &'a [u8] {
+    bytes.strip_prefix(text).unwrap_or(&[])
+}
+
+/// Returns whether a path ends with a name that a part of the file of another path may have.
+pub fn is_part_name(part: &str, whole: &str) -> bool {
+    let name = behind(name_in_directory(part).as_bytes(), b".");
+    match behind(
+        behind(name, name_in_directory(whole).as_bytes()),
+        BEFORE_NUMBER,
+    ) {
+        [number @ .., b'.', b'p', b'a', b'r', b't'] => {
+            matches!(number.len(), 1 | 2) && number.iter().all(|byte| byte.is_ascii_digit())
+        }
+        _ => false,
+    }
+}
 
 /// Whether a part is this build's.
 #[derive(Drop)]
@@ -59,12 +97,12 @@ pub fn lock_part(rt: &HostRuntime, name: &str, made: &File) -> Lock {
 }
 
 /// Removes a part if no build has its lock, and returns whether it did. A file that is not regular,
-/// that has further names, or that is one of the inputs, is no part.
+/// that has no mark, that has further names, or that is one of the inputs, is no part.
 pub fn remove_left(rt: &HostRuntime, name: &str, inputs: &[Identity]) -> bool {
     let Ok(found) = fs::symlink_metadata(rt, name) else {
         return false;
     };
-    if !found.is_file() || found.nlink() != 1 {
+    if !found.is_file() || found.mode() & MARK == 0 || found.nlink() != 1 {
         return false;
     }
     let identity = Identity::of(&found);

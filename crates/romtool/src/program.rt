@@ -5,6 +5,7 @@ ghost use Rattle.rom_commands.specs.Asked.{Fits};
 use crate::arguments::words;
 use crate::closing::settle_output;
 use crate::printed::{asked_by, in_file};
+use crate::reading::Unread;
 use crate::replies::Replies;
 use crate::reporter::Reporter;
 use crate::streams::hold_closed;
@@ -110,7 +111,7 @@ fn image_in(reporter: &Reporter<'_>, name: &str, asked: Asked) -> Result<Loaded,
             Err(no_address(reporter, name))
         }
         Ok(Found::Refused(front)) => Err(refuse_front(reporter, name, &front, asked)),
-        Err(e) => Err(reporter.refused(name.as_bytes(), &e)),
+        Err(e) => Err(reporter.unread(name.as_bytes(), &e)),
     }
 }
 
@@ -136,7 +137,7 @@ fn bytes_to_copy(reporter: &Reporter<'_>, name: &str) -> Result<Vec<u8>, Status>
     match reading::image(reporter.rt, name) {
         Ok(Found::Image(image)) => Ok(image.bytes),
         Ok(Found::Refused(front)) => Err(complain(reporter, name, &front.bytes, front.fault)),
-        Err(e) => Err(reporter.refused(name.as_bytes(), &e)),
+        Err(e) => Err(reporter.unread(name.as_bytes(), &e)),
     }
 }
 
@@ -232,7 +233,7 @@ fn serve(reporter: &Reporter<'_>, name: &str) -> Status {
 #[derive(Drop)]
 enum Missing {
     /// It cannot be read.
-    Unread(io::Error),
+    Unread(Unread),
     /// It is refused by its first bytes.
     Refused(Front),
 }
@@ -246,7 +247,9 @@ fn read_one(rt: &HostRuntime, name: &str, files: &mut Vec<Vec<u8>>) -> Result<()
     };
     match files.push(bytes) {
         Ok(()) => Ok(()),
-        Err(_) => Err(Missing::Unread(io::Error::from(io::ErrorKind::OutOfMemory))),
+        Err(_) => Err(Missing::Unread(Unread::Refused(io::Error::from(
+            io::ErrorKind::OutOfMemory,
+        )))),
     }
 }
 
@@ -268,7 +271,7 @@ fn read_all<'a>(
 /// Reports that the file of this number cannot be served, and why.
 fn say_missing(reporter: &Reporter<'_>, name: &str, image: u32, missing: &Missing) -> Status {
     let front = match missing {
-        Missing::Unread(e) => return reporter.refused(name.as_bytes(), e),
+        Missing::Unread(e) => return reporter.unread(name.as_bytes(), e),
         Missing::Refused(front) => front,
     };
     let rt = reporter.rt;

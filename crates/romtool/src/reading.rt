@@ -1,16 +1,42 @@
-//! Reads files into memory: images up to the size that they state, and manifests.
-use crate::stamp::Identity;
+//! Reads files into memory: images up to the size that they state, and manifests. A regular file
+//! that changes meanwhile is not read.
+use crate::stamp::{Identity, Stamp, let_rest};
+use image_check::reach_of;
 use image_load::{Found, load};
 use program_streams::read_until;
 use sentences::reasons::MANIFEST_TOO_LONG;
-use std::fs::{File, OpenFile};
+use std::fs::{File, Metadata, OpenFile};
 use std::{fs, io};
 
 /// The name by which the system opens standard input.
-const INPUT: &str = "/proc/self/fd/0";
+pub const INPUT: &str = "/proc/self/fd/0";
 
 /// The most bytes of a manifest.
 const MOST_OF_MANIFEST: u64 = 1 << 30;
+
+/// The reason why a file was not read.
+#[derive(Drop)]
+pub enum Unread {
+    /// It changed while it was read.
+    Changed,
+    /// The operating system's error.
+    Refused(io::Error),
+}
+
+impl From<io::Error> for Unread {
+    fn from(e: io::Error) -> Unread {
+        Unread::Refused(e)
+    }
+}
+
+/// Checks that a file has as many bytes as were wanted of it, and the state that it had before, if
+/// it is regular.
+fn check_unchanged(file: &File, was: &Metadata, read: u64, wanted: u64) -> Result<(), Unread> {
+    if was.is_file() && (read < wanted || Stamp::of(&file.metadata()?) != Stamp::of(was)) {
+        return Err(Unread::Changed);
+    }
+    Ok(())
+}
 
 /// Returns the image in a file, with the bytes that a check reads: up to the size that it states. A
 /// check of these bytes returns the same as one of the whole file
@@ -19,55 +45,97 @@ const MOST_OF_MANIFEST: u64 = 1 << 30;
 ///
 /// # Errors
 ///
-/// The operating system's error.
-pub fn image(rt: &HostRuntime, name: &str) -> io::Result<Found> {
+/// The operating system's error; `Changed` if a regular file changed while it was read.
+pub fn image(rt: &HostRuntime, name: &str) -> Result<Found, Unread> {
     let mut file = File::open(rt, name)?;
-    let length = file.metadata()?.len();
-    load(rt.alloc(), &mut file, length)
+    let was = file.metadata()?;
+    let found = load(rt.alloc(), &mut file, was.len())?;
+    let (read, wanted) = match &found {
+        Found::Image(image) => (
+            image.bytes.len() as u64,
+            reach_of(&image.bytes).min(was.len()),
+        ),
+        Found::Refused(_) => (0, 0),
+    };
+    check_unchanged(&file, &was, read, wanted)?;
+    Ok(found)
 }
 
-/// The text of a manifest, and the identity of its file, if the system reports it.
+/// Which file a text was read from, and the state that the file had, if it is regular.
+#[derive(Clone, Copy)]
+pub struct TextFile {
+    pub identity: Option<Identity>,
+    pub stamp: Option<Stamp>,
+}
+
+impl TextFile {
+    /// Returns the file with these attributes.
+    fn of(found: &Metadata) -> TextFile {
+        TextFile {
+            identity: Some(Identity::of(found)),
+            stamp: if found.is_file() {
+                Some(Stamp::of(found))
+            } else {
+                None
+            },
+        }
+    }
+}
+
+/// The text of a manifest, and its file.
 #[derive(Drop)]
 pub struct Text {
     pub bytes: Vec<u8>,
-    pub identity: Option<Identity>,
+    pub file: TextFile,
 }
 
 /// Returns the text of the manifest on standard input.
 ///
 /// # Errors
 ///
-/// The operating system's error; `FileTooLarge` if there are more than 2^30 bytes.
-pub fn manifest_of_input(rt: &HostRuntime) -> io::Result<Text> {
+/// The operating system's error; `FileTooLarge` if there are more than 2^30 bytes; `Changed` if
+/// standard input is a regular file that changed meanwhile.
+pub fn manifest_of_input(rt: &HostRuntime) -> Result<Text, Unread> {
+    let was = fs::metadata(rt, INPUT).ok();
     let mut bytes = Vec::new(rt.alloc());
     read_until(&mut rt.reader(), &mut bytes, MOST_OF_MANIFEST + 1, 0)?;
     if bytes.len() as u64 > MOST_OF_MANIFEST {
-        return Err(io::Error::new(io::ErrorKind::FileTooLarge, MANIFEST_TOO_LONG));
+        return Err(Unread::Refused(io::Error::new(io::ErrorKind::FileTooLarge, MANIFEST_TOO_LONG)));
     }
-    let identity = match fs::metadata(rt, INPUT) {
-        Ok(found) => Some(Identity::of(&found)),
-        Err(_) => None,
+    let Some(was) = was else {
+        let (identity, stamp) = (None, None);
+        return Ok(Text {
+            bytes,
+            file: TextFile { identity, stamp },
+        });
     };
-    Ok(Text { bytes, identity })
+    let file = TextFile::of(&was);
+    match fs::metadata(rt, INPUT) {
+        Ok(found) if TextFile::of(&found).stamp != file.stamp => Err(Unread::Changed),
+        _ => Ok(Text { bytes, file }),
+    }
 }
 
 /// Returns the text of the manifest in a file.
 ///
 /// # Errors
 ///
-/// The operating system's error; `FileTooLarge` if the file has more than 2^30 bytes.
-pub fn manifest(rt: &HostRuntime, name: &str) -> io::Result<Text> {
+/// The operating system's error; `FileTooLarge` if the file has more than 2^30 bytes; `Changed` if
+/// a regular file changed while it was read.
+pub fn manifest(rt: &HostRuntime, name: &str) -> Result<Text, Unread> {
     let mut file = File::open(rt, name)?;
-    let found = file.metadata()?;
+    let was = file.metadata()?;
+    if was.is_file() {
+        let_rest(rt, &[Stamp::of(&was)]);
+    }
     let mut bytes = Vec::new(rt.alloc());
-    if found.len() <= MOST_OF_MANIFEST {
-        read_until(&mut file, &mut bytes, MOST_OF_MANIFEST + 1, found.len())?;
+    if was.len() <= MOST_OF_MANIFEST {
+        read_until(&mut file, &mut bytes, MOST_OF_MANIFEST + 1, was.len())?;
     }
-    if found.len().max(bytes.len() as u64) > MOST_OF_MANIFEST {
-        return Err(io::Error::new(io::ErrorKind::FileTooLarge, MANIFEST_TOO_LONG));
+    if was.len().max(bytes.len() as u64) > MOST_OF_MANIFEST {
+        return Err(Unread::Refused(io::Error::new(io::ErrorKind::FileTooLarge, MANIFEST_TOO_LONG)));
     }
-    Ok(Text {
-        bytes,
-        identity: Some(Identity::of(&found)),
-    })
+    check_unchanged(&file, &was, bytes.len() as u64, was.len())?;
+    let file = TextFile::of(&was);
+    Ok(Text { bytes, file })
 }

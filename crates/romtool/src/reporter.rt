@@ -5,12 +5,13 @@ ghost use Rattle.rom_commands.specs.Endings.{status_of};
 
 use crate::arguments::NoWords;
 use crate::origin::Origin;
+use crate::reading::Unread;
 use command_line::{WordsError, is_explain};
 use program_streams::Held;
 use rom_commands::{Ending, Status, report};
 use rom_faults::Fault;
 use rom_fields::Plain;
-use sentences::reasons::NO_WORD;
+use sentences::reasons::{NO_WORD, SOURCE_CHANGED};
 use sentences::words::escaped;
 use sentences::{call_sentence, ending_sentence, fault_sentence, image};
 use std::alloc::AllocError;
@@ -140,13 +141,26 @@ impl<'a> Reporter<'a> {
     /// that of the file in an image that the command was about. A fault is not explained here.
     pub fn finish<X: Write + Drop>(&self, err: Plain<Held<X>>, ending: Ending<'_>, path: &[u8]) {
         let mut held = err.into_inner();
-        let is_left = is_left(ending);
+        let (is_left, reason) = (is_left(ending), last_error());
         let _ = held.flush();
         if let Some(sentence) = sentence_of(ending)
             && !is_left
         {
-            self.explain(place_of(ending, path), &sentence);
+            let place = place_of(ending, path);
+            if ending == Ending::WriteFault
+                && let Ok(words) = self.with_reason(sentence, &reason)
+            {
+                self.explain(place, &words);
+            } else {
+                self.explain(place, &sentence);
+            }
         }
+    }
+
+    /// A sentence, followed by the operating system's words for an error.
+    fn with_reason(&self, sentence: &str, e: &io::Error) -> Result<String, AllocError> {
+        let words = self.words_of(e)?;
+        format!(in self.rt.alloc(); "{sentence}: {words}")
     }
 
     /// Does the same for a command on the image in the file of this name, and explains the image's
@@ -195,6 +209,16 @@ impl<'a> Reporter<'a> {
             return self.say(Ending::Memory);
         }
         self.failed_by(name, e)
+    }
+
+    /// Reports why a file was not read: it changed, or the system refused it.
+    pub fn unread(&self, name: &[u8], why: &Unread) -> Status
+        ensures { result ≡ Status.Failed }
+    {
+        match why {
+            Unread::Changed => self.changed(name, &SOURCE_CHANGED),
+            Unread::Refused(e) => self.refused(name, e),
+        }
     }
 
     /// Reports that a file could not be written, and the operating system's reason.

@@ -38,7 +38,7 @@ pub fn loaded(reporter: &Reporter<'_>, name: &str) -> Result<Loaded, Status> {
     match reading::image(reporter.rt, name) {
         Ok(Found::Image(image)) => Ok(image),
         Ok(Found::Refused(front)) => Err(say_fault(reporter, name, &front.bytes, front.fault)),
-        Err(e) => Err(reporter.refused(name.as_bytes(), &e)),
+        Err(e) => Err(reporter.unread(name.as_bytes(), &e)),
     }
 }
 

@@ -4,6 +4,8 @@ ghost use Rattle.atomic_file.specs.Accounts.{log_of, room_of};
 
 use crate::beside::{Beside, KeepError, NAMES, Others, System, Writer, is_of_its_kind};
 use crate::closing::close;
+use crate::mounted::is_mounted;
+use crate::parts::is_part_name;
 use crate::place::{behind_links, directory_of, name_in_directory};
 use crate::stamp::Identity;
 use atomic_file::{Begun, Fill, Unbegun, Unfinished, abandon, begin, keep};
@@ -11,7 +13,7 @@ use image_file::{LastCheck, PlanImage, Unwritten, put};
 use image_stream::Sources;
 use program_streams::{Held, Remembering};
 use rom_fields::{ByteWrite, Failed, Plain};
-use sentences::reasons::{HUNDRED_PARTS, REPLACED};
+use sentences::reasons::{HUNDRED_PARTS, MOUNTED, REPLACED};
 use std::fs::{File, OpenFile, OpenOptions};
 use std::marker::Model;
 use std::{fs, io};
@@ -166,23 +168,9 @@ fn are_for_one_name(rt: &HostRuntime, one: &str, another: &str) -> bool {
     name_in_directory(one) == name_in_directory(another) && are_in_one_directory(rt, one, another)
 }
 
-/// Whether a name in a directory is one of those of the parts of another name.
-fn is_part_name(name: &[u8], whole: &[u8]) -> bool {
-    let Some(behind) = name.strip_prefix(whole) else {
-        return false;
-    };
-    match behind {
-        [b'.', number @ .., b'.', b'p', b'a', b'r', b't'] => {
-            matches!(number.len(), 1 | 2) && number.iter().all(|byte| byte.is_ascii_digit())
-        }
-        _ => false,
-    }
-}
-
 /// Returns whether the first name is one that a part of the second one may have.
 pub fn is_part_of(rt: &HostRuntime, part: &str, whole: &str) -> bool {
-    let names = (name_in_directory(part), name_in_directory(whole));
-    is_part_name(names.0.as_bytes(), names.1.as_bytes()) && are_in_one_directory(rt, part, whole)
+    is_part_name(part, whole) && are_in_one_directory(rt, part, whole)
 }
 
 /// Synchronizes a file that is not regular, if that can be done, and closes it.
@@ -254,11 +242,15 @@ impl Target {
     ///
     /// # Errors
     ///
-    /// That of the system: for a directory, for a file that cannot be written, for a link that
-    /// leads nowhere, or if no file can be made beside it.
+    /// The operating system's error: for a directory, for a file that cannot be written, for a link
+    /// that leads nowhere, or if no file can be made beside it; `ResourceBusy` for a block device
+    /// that is mounted.
     pub fn open(rt: &HostRuntime, name: &str, inputs: Vec<Identity>) -> io::Result<Target> {
         match fs::metadata(rt, name) {
             Ok(found) if found.is_file() => in_place_of(rt, name, inputs),
+            Ok(found) if is_mounted(rt, &found) => {
+                Err(io::Error::new(io::ErrorKind::ResourceBusy, MOUNTED))
+            }
             Ok(_) => straight(rt, name),
             Err(e) if e.kind() == io::ErrorKind::NotFound => in_a_new_place(rt, name, inputs, e),
             Err(e) => Err(e),

@@ -15,7 +15,7 @@ pub const TOO_MANY_LINKS: &str = "more than 40 symbolic links follow one another
 
 /// No name is left for the part of a build.
 pub const HUNDRED_PARTS: &str =
-    "a hundred parts of builds, .0.part to .99.part, are beside it; remove old ones";
+    "a hundred parts, .NAME.romtool-0.part and so on, are beside it; remove old ones";
 
 /// A directory holds a file of a kind that no manifest has.
 pub const NO_KIND: &str = "it is of a kind that no manifest has";
@@ -89,6 +89,17 @@ pub const NOT_EMPTY: &str = "it is not empty";
 pub const OF_ANOTHER_USER: &str =
     "it is owned by another user, who could change what is made in it";
 
+/// Other users may replace what is made in the directory.
+pub const OPEN_TO_OTHERS: &str =
+    "other users may write in it, and could replace what is made in it";
+
+/// Another user made the link to the directory, or may replace it.
+pub const LINK_OF_ANOTHER: &str =
+    "it is a link that another user made or may replace: name the directory itself";
+
+/// A file system on the block device is mounted.
+pub const MOUNTED: &str = "a file system on this device is mounted: unmount it first";
+
 /// The directory that was being filled is incomplete.
 pub const INCOMPLETE: &str = "it is incomplete; the files that were made in it are still there";
 
@@ -128,6 +139,9 @@ pub const OWN_FILE: &str = "it is a file that the manifest lists, or the file of
 
 /// The manifest has the name of standard output.
 pub const OWN_STREAM: &str = "it is the file that standard output is written to";
+
+/// The file of a result is standard error.
+pub const OWN_ERROR: &str = "it is the file that standard error is written to";
 
 /// The system refused a part of a manifest.
 pub const MANIFEST_NOT_TAKEN: &str = "not all of the manifest could be written to it";

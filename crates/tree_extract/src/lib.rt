@@ -12,10 +12,6 @@ mod account;
 mod directory;
 mod extracting;
 pub mod laws;
-#[cfg(test)]
-mod simulated;
-#[cfg(test)]
-mod tests;
 mod tree;
 
 pub use account::{Account, Answered, Asked};

@@ -1,5 +1,0 @@
-use Rattle.std.proofs.Common.{length}
-use Rattle.read_tests.proofs.mounted.+is_alone.Given as goal
-
-abbrev pub decreases-is_alone : goal.decreases-is_alone
-decreases-is_alone l = length l.others.now

@@ -1,9 +1,0 @@
-use Rattle.std.proofs.Common.{refl}
-use Rattle.rom_tree.proofs.Named.{has_directory}
-use Rattle.sample_image.specs.Sample.{root}
-use Rattle.sample_image.specs.SampleLaws.{sample}
-use Rattle.sample_image.proofs.Answering.{node1}
-use Rattle.read_tests.proofs.sample_names.in_root.Goals as goal
-
-pub lookup-requires : goal.lookup-requires
-lookup-requires c κs = ((refl, tt), has_directory sample 1 root node1 refl)
