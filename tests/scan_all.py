@@ -47,7 +47,6 @@ def is_program(held):
     return kind in (2, 3) and filed > 0 and not flags & 2
 
 
-
 class Told:
     """What the system says of each name in a directory, in the order of the bytes of paths."""
 
