@@ -108,7 +108,7 @@ class Told:
     def is_program(self, path):
         """Whether the file of a path is executed in place."""
         with open(self.base + path, "rb") as file:
-            return is_program(file.read())
+            return is_program(file.read(1 << 16))
 
     def manifest(self, wanted, align):
         """Returns the manifest that a scan prints."""

@@ -1,6 +1,6 @@
 //! Files as the sources of an image.
-ghost use Rattle.std.specs.Prelude.{◌≡◌, ◌↔◌, List, length, map};
-ghost use Rattle.std.specs.Option.{ForSome};
+ghost use Rattle.std.specs.Prelude.{◌≡◌, ◌↔◌, ℕ, List, length, map};
+ghost use Rattle.std.specs.Option.{ForSome, is_some};
 ghost use Rattle.image_stream.specs.Answers.{Answer};
 ghost use Rattle.file_sources.specs.Told.{name_at, contents_of_all};
 ghost use Rattle.file_sources.specs.Told.{IsLogOf};
@@ -23,6 +23,7 @@ pub struct FileSources<'a, O: Opener> {
     reason: Option<io::Error>,
     ghost open: { ForSome opened (λ o. O.name_of o.file
         ≡ name_at (map O.spelled names.now) o.number) },
+    ghost reasons: { is_some reason ≡ is_some failed },
 }
 
 impl<'a, O: Opener> FileSources<'a, O> {
@@ -45,10 +46,16 @@ impl<'a, O: Opener> FileSources<'a, O> {
         }
     }
 
-    /// Returns the opener, and the reason why the last read failed, if it was refused.
+    /// Returns the opener, and the reason of the last read that failed, if one did.
     pub fn into_parts(self) -> (O, Option<io::Error>)
-        ensures opener { result.0 ≡ self.entry.opener }
-        ensures reason { result.1 ≡ self.entry.reason }
+        ensures opener { (names : List (List ℕ))
+            × (⟦<FileSources<'a, O> as Sources>⟧.files self.entry ≡ length names)
+            × (⟦<FileSources<'a, O> as Sources>⟧.known self.entry
+            ≡ contents_of_all (O.contents result.0) names)
+            × ((log : List Answer) → ⟦<FileSources<'a, O> as Sources>⟧.IsLog self.entry log
+            ↔ IsLogOf names (O.IsLog result.0) log) }
+        ensures reason { is_some result.1
+            ≡ is_some (⟦<FileSources<'a, O> as Sources>⟧.reads self.entry).failed }
     {
         let FileSources {
             opener,

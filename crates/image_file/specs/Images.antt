@@ -1,6 +1,7 @@
 -- `IsImageWritten`: the image of a plan was appended, with what the sources answered.
--- `IsImageFault`: why it was not. (This project's own.)
-use Rattle.std.specs.Prelude.{ℕ, List, Option, Ok, ⊤}
+-- `IsCheckedImage`: the same, and the last check passed. `IsImageFault`: why it was not. (This
+-- project's own.)
+use Rattle.std.specs.Prelude.{ℕ, List, Option, Ok}
 use Rattle.std.specs.Io.KnownBytes.{Appends}
 use Rattle.rom_fields.specs.Written.{Output}
 use Rattle.image_stream.specs.Answers.{Answer}
@@ -21,9 +22,14 @@ pub record IsImageWritten (known : Option (List (List ℕ))) (was is : List Answ
   pub built : (text : List ℕ) → IsPlanOfText text p → IfKnown known (λ cs. (bytes : List ℕ)
       × Builds p.format text cs (Ok bytes) × Appends old new bytes)
 
--- the stream failed for this reason, or the last check did
-abbrev pub IsImageFault : {E : Type 0} → Option (List (List ℕ)) → Planned → Reads → Reads → Output
-    → Output → Unwritten E → Type 0
-IsImageFault known p r r' w w' (Stream e) =
+-- the same, and the last check passed
+abbrev pub IsCheckedImage : Type 0 → Option (List (List ℕ)) → (List Answer → Type 0)
+    → (List Answer → Type 0) → Planned → Option (List ℕ) → Option (List ℕ) → Type 0
+IsCheckedImage passed known was is p old new = passed × IsImageWritten known was is p old new
+
+-- the stream failed for this reason, or the last check did, and `fails` says what that means
+abbrev pub IsImageFault : {E : Type 0} → (E → Type 0) → Option (List (List ℕ)) → Planned → Reads
+    → Reads → Output → Output → Unwritten E → Type 0
+IsImageFault fails known p r r' w w' (Stream e) =
     IsStreamFault known (form_in p.format p) (stored_in p.format) r r' w w' e
-IsImageFault known p r r' w w' (Late e) = ⊤
+IsImageFault fails known p r r' w w' (Late e) = fails e

@@ -1,6 +1,6 @@
 //! The image of a plan as what fills a file.
-ghost use Rattle.std.specs.Prelude.{◌≡◌, ◌≤◌, ◌%◌, length};
-ghost use Rattle.image_file.specs.Images.{IsImageWritten, IsImageFault};
+ghost use Rattle.std.specs.Prelude.{◌≡◌, ◌≤◌, ◌%◌, length, OnOk, IfErr};
+ghost use Rattle.image_file.specs.Images.{IsCheckedImage, IsImageFault};
 
 use atomic_file::Fill;
 use image_build::{StreamError, stream_through};
@@ -13,8 +13,20 @@ pub trait LastCheck {
     /// The reason why it failed.
     type Error: Drop;
 
+    // The check was made, and found nothing.
+    ghost passed: { Self → Type 0 };
+
+    // What an error means, by the check before and after.
+    ghost fails: { Self → Self → Self.Error → Type 0 };
+
     /// Makes the check.
-    fn check(&mut self) -> Result<(), Self::Error>;
+    ///
+    /// # Errors
+    ///
+    /// What the check found.
+    fn check(&mut self) -> Result<(), Self::Error>
+        ensures ok { OnOk result (passed self.new) }
+        ensures err { IfErr result (λ e. fails self.old self.new e) };
 }
 
 /// The reason why an image was not written.
@@ -38,11 +50,11 @@ pub struct PlanImage<'a, S: Sources, K: LastCheck> {
 impl<'a, S: Sources, K: LastCheck> Fill for PlanImage<'a, S, K> {
     type Error = Unwritten<K::Error>;
 
-    ghost writes = { λ s t old new. IsImageWritten (S.known s.sources) (S.IsLog s.sources)
-        (S.IsLog t.sources) s.plan.now old new };
+    ghost writes = { λ s t old new. IsCheckedImage (K.passed t.last) (S.known s.sources)
+        (S.IsLog s.sources) (S.IsLog t.sources) s.plan.now old new };
 
-    ghost fails = { λ s t old new e. IsImageFault (S.known s.sources) s.plan.now
-        (S.reads s.sources) (S.reads t.sources) old new e };
+    ghost fails = { λ s t old new e. IsImageFault (K.fails s.last t.last) (S.known s.sources)
+        s.plan.now (S.reads s.sources) (S.reads t.sources) old new e };
 
     ghost ready = { λ s. (S.files s.sources ≡ length s.plan.now.sizes)
         × (4096 ≤ length s.buffer.now) × (length s.buffer.now % 4 ≡ 0) };

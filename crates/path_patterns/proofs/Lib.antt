@@ -1,2 +1,3 @@
+mod Literal
 mod Rows
 mod Steps

@@ -2,9 +2,11 @@
 //!
 //! Proved: `pieces_of` reads a pattern's text as `specs/Reading.antt` defines, and `matches`
 //! returns whether a pattern's pieces match a path, as `specs/Patterns.antt` defines, for each
-//! pattern and each path. The time is at most the path's length times the pattern's.
+//! pattern and each path. The time is at most the path's length times the pattern's. A pattern
+//! without wildcards and backslashes matches exactly its own text (`laws`).
 #![tactic(auto)]
 
+pub mod laws;
 mod matching;
 mod pattern;
 mod reading;

@@ -1,8 +1,10 @@
 //! Builds an image from a manifest and files.
-ghost use Rattle.std.specs.Prelude.{◌≡◌, ◌≤◌, ◌%◌, length, IfOk, IfSome};
+ghost use Rattle.std.specs.Prelude.{◌≡◌, ◌≤◌, ◌%◌, length, map, IfOk, IfSome, None, Some};
+ghost use Rattle.std.specs.Prelude.{option_map};
 ghost use Rattle.manifest.specs.Lines.{sources_of};
 ghost use Rattle.formats.specs.Format.{format_of};
 ghost use Rattle.plan_types.specs.Plans.{IsPlanOf};
+ghost use Rattle.romtool.specs.Sources.{opened_as};
 
 use crate::beside::KeepError;
 use crate::depfile::Rule;
@@ -498,7 +500,11 @@ fn write_files(
     plan: &Plan,
     files: Files<'_>,
 ) -> Result<(), Status>
-    requires { length plan.now.sizes ≡ length files.names.now }
+    requires names { map (λ n. n.now) files.names.now
+        ≡ opened_as (option_map (λ d. d.now) asked.sources)
+        (sources_of files.origin.manifest.now.lines) }
+    requires sizes { plan.now.sizes ≡ map (λ s. s.len) files.stamps.now }
+    requires count { length plan.now.sizes ≡ length files.names.now }
 {
     let inputs = Inputs {
         manifest: files.manifest.identity,
@@ -534,7 +540,8 @@ fn build_from(
     names: &[&str],
     manifest: TextFile,
 ) -> Result<Status, Status>
-    requires { length names.now ≡ length (sources_of origin.manifest.now.lines) }
+    requires { map (λ n. n.now) names.now ≡ opened_as (option_map (λ d. d.now) asked.sources)
+        (sources_of origin.manifest.now.lines) }
 {
     let stamps = stamps_of(reporter, origin, names)?;
     let sizes = sizes_of(reporter, &stamps)?;
@@ -569,7 +576,9 @@ fn build_plain<'a>(
     asked: Build<'a>,
     manifest: &'a Manifest,
     file: TextFile,
-) -> Result<Status, Status> {
+) -> Result<Status, Status>
+    requires { asked.sources ≡ None }
+{
     let origin = Origin {
         name: asked.manifest,
         manifest,
@@ -588,7 +597,8 @@ fn build_joined<'a>(
     manifest: &'a Manifest,
     file: TextFile,
 ) -> Result<Status, Status>
-    requires { length joined.now ≡ length (sources_of manifest.now.lines) }
+    requires { map (λ j. j.items) joined.now ≡ opened_as (option_map (λ d. d.now) asked.sources)
+        (sources_of manifest.now.lines) }
 {
     let given = Some(joined);
     let origin = Origin {
@@ -608,7 +618,9 @@ fn build_in(
     directory: &str,
     manifest: &Manifest,
     file: TextFile,
-) -> Result<Status, Status> {
+) -> Result<Status, Status>
+    requires { option_map (λ d. d.now) asked.sources ≡ Some directory.now }
+{
     let joined = joined_names(reporter, directory, manifest.sources())?;
     build_joined(reporter, asked, &joined, manifest, file)
 }

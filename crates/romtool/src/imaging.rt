@@ -22,8 +22,15 @@ pub struct Unchanged<'a> {
     pub stamps: &'a [Stamp],
 }
 
+/// What the system says of a file is known by no proof.
 impl LastCheck for Unchanged<'_> {
+    ghost use Rattle.std.specs.Prelude.{⊤};
+
     type Error = Late;
+
+    ghost passed = { λ _. ⊤ };
+
+    ghost fails = { λ _ _ _. ⊤ };
 
     fn check(&mut self) -> Result<(), Late> {
         if let (name, Some(stamp)) = self.manifest

@@ -65,7 +65,7 @@ fn elf_at(rt: &HostRuntime, name: &str, stamp: &Stamp) -> io::Result<Option<Vec<
     if bytes.as_slice() != MAGIC {
         return Ok(None);
     }
-    read_until(&mut file, &mut bytes, MOST, stamp.len())?;
+    read_until(&mut file, &mut bytes, MOST, stamp.len)?;
     Ok(Some(bytes))
 }
 

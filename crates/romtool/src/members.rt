@@ -2,7 +2,8 @@
 //! owner of what is made of it.
 ghost use Rattle.std.specs.Prelude.{◌≡◌, ◌<◌, ◌++◌, codes, length, string_bytes, IfOk};
 ghost use Rattle.image_check.specs.Any.{any_view};
-ghost use Rattle.image_extract.specs.Members.{members_in};
+ghost use Rattle.image_extract.specs.Members.{members_in, stat_at};
+ghost use Rattle.romtool.specs.Rights.{given_mode, given_owner};
 ghost use Rattle.tree_extract.specs.Members.{path_at};
 
 use crate::making::{Owner, Rights};
@@ -91,6 +92,10 @@ impl Extraction<'_> {
     /// Returns the mode and owner of what is made of the member at an index.
     pub fn rights(&self, index: usize) -> Rights
         requires { index < length (members_in (any_view self.now.tree.now.image.now)) }
+        ensures mode { result.mode ≡ given_mode self.now.owners self.now.masked
+            (stat_at (any_view self.now.tree.now.image.now) index).mode }
+        ensures owner { result.owner ≡ given_owner self.now.owners
+            (stat_at (any_view self.now.tree.now.image.now) index) }
     {
         let Stat { mode, uid, gid, .. } = self.tree.stat(index);
         if self.owners {

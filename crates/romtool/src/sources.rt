@@ -1,5 +1,6 @@
 //! The sources of an image: their names and states.
-ghost use Rattle.std.specs.Prelude.{◌≡◌, length, IfOk};
+ghost use Rattle.std.specs.Prelude.{◌≡◌, length, map, IfOk};
+ghost use Rattle.romtool.specs.Sources.{joined, needs_slash};
 
 use crate::disk::stamp_unlinked;
 use crate::origin::Origin;
@@ -23,12 +24,24 @@ enum Missing {
     Refused(io::Error),
 }
 
+/// Whether a slash stands between a directory and a name in it.
+fn needs_slash(directory: &[u8]) -> bool
+    ensures { result ≡ needs_slash directory.now }
+{
+    match directory.last() {
+        Some(last) => *last != b'/',
+        None => false,
+    }
+}
+
 /// The name of a source in a directory. A name that begins with a slash stays.
-fn joined(rt: &HostRuntime, directory: &str, source: &[u8]) -> Result<Vec<u8>, AllocError> {
+fn joined(rt: &HostRuntime, directory: &[u8], source: &[u8]) -> Result<Vec<u8>, AllocError>
+    ensures { IfOk result (λ name. name.items ≡ joined directory.now source.now) }
+{
     let mut name = Vec::new(rt.alloc());
     if source.first() != Some(&b'/') {
-        name.extend_from_slice(directory.as_bytes())?;
-        if !directory.ends_with('/') && !directory.is_empty() {
+        name.extend_from_slice(directory)?;
+        if needs_slash(directory) {
             name.push(b'/')?;
         }
     }
@@ -42,11 +55,12 @@ pub fn joined_names(
     directory: &str,
     sources: &[Name],
 ) -> Result<Vec<Vec<u8>>, Status>
-    ensures { IfOk result (λ names. length names.items ≡ length sources.now) }
+    ensures { IfOk result (λ names. map (λ n. n.items) names.items
+        ≡ map (joined directory.now) sources.now) }
 {
     let mut names = Vec::new(reporter.rt.alloc());
     for source in sources {
-        let Ok(name) = joined(reporter.rt, directory, source.as_bytes()) else {
+        let Ok(name) = joined(reporter.rt, directory.as_bytes(), source.as_bytes()) else {
             return Err(reporter.say(Ending::Memory));
         };
         if names.push(name).is_err() {
@@ -150,7 +164,7 @@ pub fn names_of<'m>(
     origin: Origin<'_>,
     sources: &'m [Name],
 ) -> Result<Vec<&'m str>, Status>
-    ensures { IfOk result (λ names. length names.items ≡ length sources.now) }
+    ensures { IfOk result (λ names. map (λ n. n.now) names.items ≡ sources.now) }
 {
     let mut names = Vec::new(reporter.rt.alloc());
     for source in sources {
@@ -170,7 +184,8 @@ pub fn texts_of<'m>(
     origin: Origin<'_>,
     joined: &'m [Vec<u8>],
 ) -> Result<Vec<&'m str>, Status>
-    ensures { IfOk result (λ names. length names.items ≡ length joined.now) }
+    ensures { IfOk result (λ names. map (λ n. n.now) names.items
+        ≡ map (λ j. j.items) joined.now) }
 {
     let mut names = Vec::new(reporter.rt.alloc());
     for bytes in joined {
@@ -209,11 +224,11 @@ pub fn stamps_of(
 
 /// Returns the number of bytes of each source.
 pub fn sizes_of(reporter: &Reporter<'_>, stamps: &[Stamp]) -> Result<Vec<u64>, Status>
-    ensures { IfOk result (λ sizes. length sizes.items ≡ length stamps.now) }
+    ensures { IfOk result (λ sizes. sizes.items ≡ map (λ s. s.len) stamps.now) }
 {
     let mut sizes = Vec::new(reporter.rt.alloc());
     for stamp in stamps {
-        if sizes.push(stamp.len()).is_err() {
+        if sizes.push(stamp.len).is_err() {
             return Err(reporter.say(Ending::Memory));
         }
     }

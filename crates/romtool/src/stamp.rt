@@ -42,7 +42,8 @@ struct Time {
 #[derive(Clone, Copy, PartialEq, Eq)]
 pub struct Stamp {
     identity: Identity,
-    len: u64,
+    /// The number of its bytes.
+    pub len: u64,
     modified: Time,
     changed: Time,
 }
@@ -67,11 +68,6 @@ impl Stamp {
     /// Returns which file it is.
     pub fn identity(&self) -> Identity {
         self.identity
-    }
-
-    /// Returns the number of its bytes.
-    pub fn len(&self) -> u64 {
-        self.len
     }
 
     /// The time of its last change, since 1970.

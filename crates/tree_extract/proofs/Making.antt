@@ -7,7 +7,7 @@ use Rattle.tree_extract.specs.Members.{Member, AreMembers, kind_at, path_at, byt
 use Rattle.tree_extract.specs.Log.{Call, MakeDirectory, MakeFile, FinishFile, MakeName}
 use Rattle.tree_extract.specs.Log.{MakeSymlink, SetRights, Event, Did, Refused, Logs, LogsName}
 use Rattle.tree_extract.specs.Safe.{IsNew, IsSafe, IsFree}
-use Rattle.tree_extract.specs.Extracted.{Makes, IsMade, IsMadeAs, IsWhole, is_file, sets_rights}
+use Rattle.tree_extract.specs.Extracted.{Makes, IsMade, IsMadeAs, is_file, sets_rights}
 use Rattle.tree_extract.specs.Passes.{IsRun, IsAt, IsSet, IsFileMade, IsNameMade, rank}
 use Rattle.tree_extract.specs.declared.tree.Kind.{Kind}
 use Rattle.tree_extract.specs.declared.tree.Kind.TheVariants as kind
@@ -147,7 +147,8 @@ module _ (known : Option (List ℕ)) (ms ds : List Member) (same : ds ≡ ms) (m
   -- a file was made, on top of what was logged for the member before
   file_at : (f : ℕ) (old mid new : List Event) → IsAt known ms f i old → rank (kind_at ms i) ≡ f
       → is_file (kind_at ms i) ≡ true → IsMore known ms i old mid → IsNew mid (path_at ms i)
-      → ((log : List Event) → IsWhole known log (path_at ms i) (bytes_at ms i) → IsMade known ms i log)
+      → ((contents : Option (List ℕ)) → Appends known contents (bytes_at ms i)
+      → IsMade known ms i (Did (FinishFile (path_at ms i) contents) ∷ Did (MakeFile (path_at ms i)) ∷ mid))
       → IsFileMade known ms i mid new → IsAt known ms f (i + 1) new
   file_at f old mid new place is file more fresh made it =
       let c : Call = MakeFile (path_at ms i) in
@@ -156,8 +157,7 @@ module _ (known : Option (List ℕ)) (ms ds : List Member) (same : ds ≡ ms) (m
       (free known ms mid i members more.run lt (some_file (kind_at ms i) file) fresh) (refl, file) refl in
       let ended = more_did known ms i old (Did c ∷ mid) d members lt begun (mid, refl) (refl, file, it.1) refl in
       subst (IsAt known ms f (i + 1)) (sym it.2)
-      (step known ms f i old (Did d ∷ Did c ∷ mid) place lt is ended
-      (made (Did d ∷ Did c ∷ mid) (it.0, it.1, inl refl)))
+      (step known ms f i old (Did d ∷ Did c ∷ mid) place lt is ended (made it.0 it.1))
 
   pub file_passed : {A E : Type 0} (r : Result A E) (f : ℕ) (old new : List Event) → IsAt known ms f i old
       → rank (kind_at ms i) ≡ f → kind_at ms i ≡ kind.File → OnOk r (IsFileMade known ms i old new)
@@ -165,7 +165,9 @@ module _ (known : Option (List ℕ)) (ms ds : List Member) (same : ds ≡ ms) (m
   file_passed (Ok v) f old new place is is_kind it =
       file_at f old old new place is (ap is_file is_kind) (more_none known ms i old place.run)
       (fresh_here known ms f i old place lt is)
-      (λ log whole. subst (IsMadeAs known ms i log) (sym is_kind) whole) it
+      (λ contents appends. subst
+      (IsMadeAs known ms i (Did (FinishFile (path_at ms i) contents) ∷ Did (MakeFile (path_at ms i)) ∷ old))
+      (sym is_kind) (contents, appends, inl refl)) it
   file_passed (Err e) f old new place is is_kind it = tt
 
   name_at : (f first : ℕ) (old new : List Event) → IsAt known ms f i old → rank (kind_at ms i) ≡ f
@@ -183,7 +185,9 @@ module _ (known : Option (List ℕ)) (ms ds : List Member) (same : ds ≡ ms) (m
       file_at f old (Refused c ∷ old) new place is (ap is_file is_kind)
       (more_refused known ms i old old c lt (more_none known ms i old place.run)
       (name_safe first old place.run is_kind fresh) (refl, first, is_kind, refl) refl)
-      fresh (λ log whole. subst (IsMadeAs known ms i log) (sym is_kind) (inr whole)) it
+      fresh (λ contents appends. subst (IsMadeAs known ms i
+      (Did (FinishFile (path_at ms i) contents) ∷ Did (MakeFile (path_at ms i)) ∷ Refused c ∷ old))
+      (sym is_kind) (inr (contents, appends, inl (refl, inr (inl refl))))) it
 
   pub name_passed : {A E : Type 0} (r : Result A E) (f first : ℕ) (old new : List Event) → IsAt known ms f i old
       → rank (kind_at ms i) ≡ f → kind_at ms i ≡ kind.Further first → OnOk r (IsNameMade known ms i first old new)

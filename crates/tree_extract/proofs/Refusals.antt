@@ -4,7 +4,7 @@ use Rattle.std.proofs.Common.{refl, sym, ◌∙◌, ap, subst, arith}
 use Rattle.tree_extract.specs.Paths.{IsName, IsPlain, path_of}
 use Rattle.tree_extract.specs.Members.{Member, kind_at, path_at}
 use Rattle.tree_extract.specs.Log.{Call, MakeDirectory, MakeFile, FinishFile, MakeName}
-use Rattle.tree_extract.specs.Log.{MakeSymlink, Event, Did, Refused, call_of, Has}
+use Rattle.tree_extract.specs.Log.{MakeSymlink, Event, Did, Refused, call_of, Has, HasAfter}
 use Rattle.tree_extract.specs.Safe.{AreSafe, IsSafe, IsNew, MakesOther}
 use Rattle.tree_extract.specs.Extracted.{IsMadeAs, IsWhole}
 use Rattle.tree_extract.specs.declared.tree.Kind.{Kind}
@@ -73,13 +73,19 @@ no_whole : (known : Option (List ℕ)) (log : List Event) (q bytes : List ℕ) �
 no_whole known log q bytes safe fresh whole =
     new_has log (MakeFile q) q fresh (finished_made log q whole.0 safe whole.2) refl
 
+was_there : (log : List Event) (x before : Event) → HasAfter log x before → Has log x
+was_there [] x before has = absurd has
+was_there (e ∷ log) x before (inl is) = inl is.0
+was_there (e ∷ log) x before (inr has) = inr (was_there log x before has)
+
 none_made : (known : Option (List ℕ)) (ms : List Member) (i : ℕ) (log : List Event) (k : Kind) → k ≢ kind.Nothing
     → AreSafe log → IsNew log (path_at ms i) → IsMadeAs known ms i log k → ⊥
 none_made known ms i log kind.Directory some safe fresh made = new_has log (MakeDirectory _) _ fresh made refl
 none_made known ms i log kind.File some safe fresh made = no_whole known log _ _ safe fresh made
 none_made known ms i log (kind.Further first) some safe fresh (inl made) =
     new_has log (MakeName _ _) _ fresh made refl
-none_made known ms i log (kind.Further first) some safe fresh (inr made) = no_whole known log _ _ safe fresh made
+none_made known ms i log (kind.Further first) some safe fresh (inr made) =
+    no_whole known log _ _ safe fresh (made.0, made.1, was_there log _ _ made.2)
 none_made known ms i log kind.Symlink some safe fresh made = new_has log (MakeSymlink _ _) _ fresh made refl
 none_made known ms i log kind.Nothing some safe fresh made = some refl
 

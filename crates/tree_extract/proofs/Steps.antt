@@ -6,7 +6,7 @@ use Rattle.tree_extract.specs.Members.{Member, AreMembers, kind_at, path_at}
 use Rattle.tree_extract.specs.Log.{Call}
 use Rattle.tree_extract.specs.Log.{Event, Did, Refused, Logs, LogsName}
 use Rattle.tree_extract.specs.Safe.{IsNew, IsSafe}
-use Rattle.tree_extract.specs.Extracted.{Makes, IsMade, IsMadeAs, IsWhole, HasNoRights, sets_rights}
+use Rattle.tree_extract.specs.Extracted.{Makes, IsMade, IsMadeAs, IsWhole, IsCopied, HasNoRights, sets_rights}
 use Rattle.tree_extract.specs.Passes.{IsRun, IsAt, IsPast, rank}
 use Rattle.tree_extract.specs.declared.tree.Kind.{Kind}
 use Rattle.tree_extract.specs.declared.tree.Kind.TheVariants as kind
@@ -49,12 +49,16 @@ whole_more : (known : Option (List ℕ)) (log : List Event) (e : Event) (p bytes
     → IsWhole known (e ∷ log) p bytes
 whole_more known log e p bytes whole = (whole.0, whole.1, inr whole.2)
 
+copied_more : (known : Option (List ℕ)) (log : List Event) (e : Event) (p first bytes : List ℕ)
+    → IsCopied known log p first bytes → IsCopied known (e ∷ log) p first bytes
+copied_more known log e p first bytes copied = (copied.0, copied.1, inr copied.2)
+
 made_as_more : (known : Option (List ℕ)) (ms : List Member) (i : ℕ) (log : List Event) (e : Event) (k : Kind)
     → IsMadeAs known ms i log k → IsMadeAs known ms i (e ∷ log) k
 made_as_more known ms i log e kind.Directory made = inr made
 made_as_more known ms i log e kind.File made = whole_more known log e _ _ made
 made_as_more known ms i log e (kind.Further first) (inl made) = inl (inr made)
-made_as_more known ms i log e (kind.Further first) (inr made) = inr (whole_more known log e _ _ made)
+made_as_more known ms i log e (kind.Further first) (inr made) = inr (copied_more known log e _ _ _ made)
 made_as_more known ms i log e kind.Symlink made = inr made
 made_as_more known ms i log e kind.Nothing made = tt
 

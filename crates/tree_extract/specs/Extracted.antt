@@ -4,7 +4,8 @@ use Rattle.std.specs.Prelude.{◌≡◌, ◌⊎◌, ◌<◌, ℕ, Bool, true, fa
 use Rattle.std.specs.Prelude.{length}
 use Rattle.std.specs.Io.KnownBytes.{Appends}
 use Rattle.tree_extract.specs.Log.{Call, MakeDirectory, MakeFile, FinishFile, MakeName}
-use Rattle.tree_extract.specs.Log.{MakeSymlink, SetRights, Event, Did, call_of, Has}
+use Rattle.tree_extract.specs.Log.{MakeSymlink, SetRights, Event, Did, Refused, call_of, Has}
+use Rattle.tree_extract.specs.Log.{HasAfter}
 use Rattle.tree_extract.specs.Members.{Member, kind_at, path_at, bytes_at}
 use Rattle.tree_extract.specs.declared.tree.Kind.{Kind}
 use Rattle.tree_extract.specs.declared.tree.Kind.TheVariants.{Directory, File, Further, Symlink}
@@ -45,17 +46,23 @@ IsWhole fresh log p bytes =
     (contents : Option (List ℕ)) × Appends fresh contents bytes
     × Has log (Did (FinishFile p contents))
 
+-- such a file was made after a further name at this path was refused
+abbrev pub IsCopied : Option (List ℕ) → List Event → List ℕ → List ℕ → List ℕ → Type 0
+IsCopied fresh log p first bytes =
+    (contents : Option (List ℕ)) × Appends fresh contents bytes
+    × HasAfter log (Did (FinishFile p contents)) (Refused (MakeName p first))
+
 abbrev pub IsMadeAs : Option (List ℕ) → List Member → ℕ → List Event → Kind → Type 0
 IsMadeAs fresh ms i log Directory = Has log (Did (MakeDirectory (path_at ms i)))
 IsMadeAs fresh ms i log File = IsWhole fresh log (path_at ms i) (bytes_at ms i)
 IsMadeAs fresh ms i log (Further first) =
     Has log (Did (MakeName (path_at ms i) (path_at ms first)))
-    ⊎ IsWhole fresh log (path_at ms i) (bytes_at ms i)
+    ⊎ IsCopied fresh log (path_at ms i) (path_at ms first) (bytes_at ms i)
 IsMadeAs fresh ms i log Symlink = Has log (Did (MakeSymlink (path_at ms i) (bytes_at ms i)))
 IsMadeAs fresh ms i log Nothing = Unit {0}
 
--- The member at index i was made. A further name is one of the same file, or a file of its own with
--- the same bytes.
+-- The member at index i was made. A further name is one of the same file. Only if the directory
+-- refused that, it is a file of its own with the same bytes.
 abbrev pub IsMade : Option (List ℕ) → List Member → ℕ → List Event → Type 0
 IsMade fresh ms i log = IsMadeAs fresh ms i log (kind_at ms i)
 

@@ -41,3 +41,8 @@ LogsName call (Err e) old new = (new ≡ Refused call ∷ old) ⊎ (new ≡ old)
 abbrev pub Has : List Event → Event → Type 0
 Has [] x = ⊥
 Has (e ∷ log) x = (x ≡ e) ⊎ Has log x
+
+-- an event of a log, and another one before it
+abbrev pub HasAfter : List Event → Event → Event → Type 0
+HasAfter [] x before = ⊥
+HasAfter (e ∷ log) x before = ((x ≡ e) × Has log before) ⊎ HasAfter log x before

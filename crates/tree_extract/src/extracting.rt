@@ -188,7 +188,8 @@ fn finish_all<T: Tree, D: Directory>(tree: &T, directory: &mut D) -> Result<(), 
 /// and sets the rights of the directories, those of inner ones first.
 ///
 /// Each call is safe: its path leads down from the directory, and through no link that was made.
-/// Nothing is made that is no member. At `Ok` each member was made whole.
+/// Nothing is made that is no member. At `Ok` each member was made whole. A further name is a file
+/// of its own only if the directory refused to make the name.
 ///
 /// # Errors
 ///

@@ -1,5 +1,6 @@
-use Rattle.std.proofs.Common.{◌≡◌, length}
+use Rattle.std.proofs.Common.{◌≡◌, map, take}
+use Rattle.romtool.specs.Sources.{joined}
 use Rattle.romtool.proofs.sources.joined_names.Given as goal
 
 abbrev pub invariant-loop-source : goal.invariant-loop-source
-invariant-loop-source l = length l.names.items ≡ l.source-index
+invariant-loop-source l = map (λ n. n.items) l.names.items ≡ map (joined l.directory) (take l.source-index l.sources)

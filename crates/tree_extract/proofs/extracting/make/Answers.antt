@@ -1,4 +1,4 @@
-use Rattle.std.proofs.Common.{sym, ◌∙◌}
+use Rattle.std.proofs.Common.{rules, sym, ◌∙◌}
 use Rattle.tree_extract.proofs.Steps.{fresh_here}
 use Rattle.tree_extract.specs.Passes.{number}
 use Rattle.tree_extract.proofs.Making.{kind_rank, free_there, directory_made, directory_asked, link_made, link_asked}
@@ -49,9 +49,9 @@ pub returns-in-Further-clause-ok : goal.returns-in-Further-clause-ok
 returns-in-Further-clause-ok g c =
     let ms = g.T.Tree.members c.args.tree.now in
     name_passed g.D.Directory.fresh ms _ c.requires.same c.requires.members c.args.index c.requires.within
-    c.make_name.result (number c.args.phase) _ _ _ c.requires.place
+    _ (number c.args.phase) c.in-Further.first _ _ c.requires.place
     (kind_rank ms c.args.index (number c.args.phase) _ c.kind-kind.ensures c.if-not-is_made_in.ensures)
-    (sym c.kind-kind.ensures ∙ c.in-Further.is) c.make_name.ensures.ok
+    (sym c.kind-kind.ensures ∙ c.in-Further.is) (search rules)
 
 pub returns-in-Symlink-clause-run : goal.returns-in-Symlink-clause-run
 returns-in-Symlink-clause-run g c =
