@@ -14,7 +14,6 @@ import os
 import stat
 import subprocess
 import sys
-import threading
 
 import rooms
 import traced
@@ -144,31 +143,29 @@ def part_of_a_killed_build(binary):
             yield "%d: %r is left" % (number, left)
 
 
+@needs_strace
 def manifests_that_change(binary):
-    """A manifest that is rewritten while an image is built of it is never taken for a shorter one."""
-    put("s", b"x")
-    lines = ["file /f%04d 0644 0 0 4 s\n" % number for number in range(3000)]
-    stop = threading.Event()
+    """A manifest that is written to, or replaced, before the image is complete ends the build, also if it was read whole."""
+    hello()
 
-    def rewrite():
-        while not stop.is_set():
-            with open("m", "w", encoding="ascii") as file:
-                for line in lines:
-                    file.write(line)
-                    file.flush()
+    def append():
+        with open("m", "ab") as file:
+            file.write(b"file /b 0644 0 0 4 a\n")
 
-    put("m", "".join(lines).encode())
-    whole = run(binary, "build", "romfs", "m", "whole").stdout
-    writer = threading.Thread(target=rewrite)
-    writer.start()
-    try:
-        for number in range(40):
-            done = run(binary, "build", "romfs", "m", "out")
-            if answer(done) not in ((whole, b"", 0), (b"", b"changed\n", 3)):
-                yield "%d: %r" % (number, answer(done))
-    finally:
-        stop.set()
-        writer.join()
+    def replace():
+        put("new", bytes_in("m"))
+        os.rename("new", "m")
+
+    def prepare(change):
+        hello()
+        put("out", b"as it was")
+        return change
+
+    for change in (append, replace):
+        for when in (3, 5):  # the first two calls may be the loader's
+            told = held_up(binary, "romfs", "pread64", when, lambda change=change: prepare(change))
+            if told != (b"", b"changed\n", 3) or bytes_in("out") != b"as it was" or parts():
+                yield "%s at read %d: %r, %r" % (change.__name__, when, told, parts())
 
 
 @needs_strace

@@ -1,6 +1,6 @@
 -- The mode and the owner that `extract` gives what it makes of a node. (This project's own.)
-use Rattle.std.specs.Prelude.{ℕ, Bool, if◌then◌else◌, Option, None, Some, bit_and, w32}
-use Rattle.std.specs.Int.{bit_not}
+use Rattle.std.specs.Prelude.{ℕ, Bool, if◌then◌else◌, Option, None, Some, bit_and}
+use Rattle.std.specs.Int.{bit_not, w32}
 use Rattle.rom_tree.specs.declared.types.Stat.{Stat}
 use Rattle.romtool.specs.declared.making.Owner.{Owner}
 
