@@ -18,6 +18,7 @@ import sys
 
 import images
 import rooms
+import traced
 from files import bytes_in, put
 from harness import missing
 from romtool import answer, escaped, run
@@ -439,6 +440,30 @@ def refused_builds(binary):
         yield "%r" % told
 
 
+@traced.needs_strace
+def failed_calls(binary):
+    """Whichever call of a `build --xip` fails, OUT is as it was or the whole image; and no program is called misplaced."""
+    put("good", elf(3, [(1, 5, 0, 0x10000, 8192, 8192)], 8192))
+    put("data", b"x" * 9)
+    put("m", (manifest(["data"], 4) + manifest(["good"], PAGE)).encode())
+    words, ends = ("build", "--xip", "cramfs", "m", "out"), 0
+    run(binary, *words)
+    image = bytes_in("out")
+    made, _ = traced.calls(binary, *words)
+    for call in made:
+        if call.name not in ("openat", "read", "pread64", "statx"):
+            continue
+        put("out", b"old")
+        done = traced.run(binary, *words, told=traced.inject(call.name, "error=EIO", call.number))
+        ends += done.returncode != 0
+        if done.returncode not in (0, 3) or b"xip" in done.stdout:
+            yield "%s: %r" % (call.text, answer(done))
+        if bytes_in("out") != (b"old" if done.returncode else image):
+            yield "%s: %r, and OUT is another file" % (call.text, answer(done))
+    if not ends:
+        yield "no call failed"
+
+
 def alignments(binary):
     """`scan --all --align N` aligns exactly the programs and libraries with a segment that cannot be written, and bFLT."""
     os.mkdir("in")
@@ -479,7 +504,7 @@ def compiler():
 
 TESTS = (
     rooms.needs(programs, compiler), rooms.needs(relocations, compiler), shared, changed, flat, scattered, words,
-    refused_builds, rooms.needs(alignments, compiler),
+    refused_builds, failed_calls, rooms.needs(alignments, compiler),
 )  # fmt: skip
 
 
