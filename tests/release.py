@@ -278,7 +278,7 @@ def as_a_stranger(root, counts):
             with open(os.path.join(work, to), "w", encoding="utf-8") as it:
                 it.write(out)
         said.append(out)
-    counts.equal("what the program says in the empty root", said[1:], ["ok 8192\n", "ok cramfs 5 2\n", "#!/bin/sh\n"])
+    counts.equal("what the program says in the empty root", said[1:], ["ok 4096\n", "ok cramfs 5 2\n", "#!/bin/sh\n"])
     shutil.rmtree(work)
 
 
