@@ -1,7 +1,7 @@
 -- A planned volume, laid out, is a cramfs image.
 use Rattle.std.proofs.Common.{◌≡◌, append_assoc, ℕ, zero, suc, ◌+◌, ◌-◌, ◌/◌, ◌%◌, ◌^◌, ◌<◌, ◌≤◌, true, false, eqb}
-use Rattle.std.proofs.Common.{if◌then◌else◌, ◌⊎◌, List, [], ◌∷◌, ◌++◌, length, take, drop, replicate, refl, sym, ap}
-use Rattle.std.proofs.Common.{subst, ◌∙◌, arith, inl, inr, length-append}
+use Rattle.std.proofs.Common.{Bool, if◌then◌else◌, ◌⊎◌, List, [], ◌∷◌, ◌++◌, length, take, drop, replicate, refl, sym}
+use Rattle.std.proofs.Common.{ap, subst, ◌∙◌, arith, inl, inr, length-append}
 use Rattle.std.proofs.lemmas.List.{take_at, take_all, length-replicate, append-nil, drop-drop}
 use Rattle.std.proofs.lemmas.Nat.{xor_lt}
 use Rattle.std.specs.Int.Bits.{bit_xor}
@@ -9,7 +9,8 @@ use Rattle.cramfs_format.specs.Order.{word}
 use Rattle.cramfs_format.specs.declared.order.Order.{Order}
 use Rattle.cramfs_format.specs.declared.order.Order.TheVariants.{Little, Big}
 use Rattle.cramfs_format.specs.Inode.{type_of, has_kinds}
-use Rattle.cramfs_format.specs.Superblock.{magic, signature, without_crc, HasCrc, accessible_size, IsSuperblock}
+use Rattle.cramfs_format.specs.Superblock.{magic, signature, size_word, has_crc, without_crc, HasCrc}
+use Rattle.cramfs_format.specs.Superblock.{accessible_size, IsSuperblock}
 use Rattle.crc.specs.Crc.{crc_of, after_bit, after_bits, after_bytes, polynomial}
 use Rattle.cramfs_format.specs.Tree.{CramfsTree, tree_of}
 use Rattle.rom_fields.specs.Parts.{Part, end_of_part, with_part, laid, Rises, end_of_parts, HasAt, HasParts}
@@ -18,8 +19,9 @@ use Rattle.rom_fields.specs.Parts.{part}
 use Rattle.rom_fields.proofs.Padding.{pad-after}
 use Rattle.rom_fields.proofs.Parts.{HasParts-laid, length-laid, laid_keeps}
 use Rattle.rom_fields.proofs.Parts.{HasAt-before, HasAt-after, HasAt-moved}
-use Rattle.cramfs_layout.specs.Layout.{word_bytes, entry_bytes, list_len, list_bytes, root_offset, count, first_state}
-use Rattle.cramfs_layout.specs.Layout.{after_names, parts, flags, size_of, superblock, with_crc, layout, type_bits}
+use Rattle.cramfs_layout.specs.Layout.{word_bytes, entry_bytes, list_len, list_bytes, root_offset, files_of}
+use Rattle.cramfs_layout.specs.Layout.{first_state, after_names, parts, flags, size_of, superblock, with_crc, layout}
+use Rattle.cramfs_layout.specs.Layout.{type_bits}
 use Rattle.cramfs_layout.specs.Reads.{IsEntry, ReadsEntry}
 use Rattle.cramfs_layout.specs.Planned.{IsPlanned}
 use Rattle.cramfs_layout.proofs.Entries.{length-entry, length-word, word_has, entry_reads}
@@ -47,13 +49,13 @@ crc_small xs =
     xor_lt 32 (after_bytes (2 ^ 32 - 1) xs) (2 ^ 32 - 1) (bytes_small (2 ^ 32 - 1) xs (omega arith)) (omega arith)
 
 -- what an image of this form says in its superblock
-record Says (o : Order) (b : List ℕ) (size w : ℕ) : Type 0 where
-  begins : word o b 0 ≡ magic
-  size_is : word o b 4 ≡ size
-  flags_are : word o b 8 ≡ flags
-  crc_is : word o b 32 ≡ w
+pub record Says (o : Order) (b : List ℕ) (size w : ℕ) : Type 0 where
+  pub begins : word o b 0 ≡ magic
+  pub size_is : word o b 4 ≡ size
+  pub flags_are : word o b 8 ≡ flags
+  pub crc_is : word o b 32 ≡ w
 
-front_says : (o : Order) (b : List ℕ) (size w : ℕ) (back : List ℕ) → b ≡ front o size (word_bytes o w ++ back)
+pub front_says : (o : Order) (b : List ℕ) (size w : ℕ) (back : List ℕ) → b ≡ front o size (word_bytes o w ++ back)
     → size < 2 ^ 32 → w < 2 ^ 32 → Says o b size w
 front_says o b size w back e small low =
     let t4 = word_bytes o 0 ++ (signature ++ (word_bytes o w ++ back)) in
@@ -160,10 +162,10 @@ root_at o b volume root n more l h =
     let zeros = replicate {A = ℕ} (16 - length volume) 0 in
     let named = volume ++ (zeros ++ entry) in
     let block_word = word_bytes o (size_of n / 4096) in
-    let file_word = word_bytes o (count n + 1) in
+    let file_word = word_bytes o (files_of n) in
     let edition_long = length-word o 0 in
     let block_long = length-word o (size_of n / 4096) in
-    let file_long = length-word o (count n + 1) in
+    let file_long = length-word o (files_of n) in
     let zeros_long = length-replicate {A = ℕ} (16 - length volume) 0 in
     let at_blocks = HasAt-moved b (36 + length (word_bytes o 0)) 40 (block_word ++ (file_word ++ (named ++ more)))
     (omega (arith, edition_long)) (HasAt-after b 36 (word_bytes o 0)
@@ -184,10 +186,10 @@ name_at o b volume root n more h =
     let zeros = replicate {A = ℕ} (16 - length volume) 0 in
     let named = volume ++ (zeros ++ entry) in
     let block_word = word_bytes o (size_of n / 4096) in
-    let file_word = word_bytes o (count n + 1) in
+    let file_word = word_bytes o (files_of n) in
     let edition_long = length-word o 0 in
     let block_long = length-word o (size_of n / 4096) in
-    let file_long = length-word o (count n + 1) in
+    let file_long = length-word o (files_of n) in
     let at_blocks = HasAt-moved b (36 + length (word_bytes o 0)) 40 (block_word ++ (file_word ++ (named ++ more)))
     (omega (arith, edition_long)) (HasAt-after b 36 (word_bytes o 0)
     (block_word ++ (file_word ++ (named ++ more))) h) in
@@ -242,6 +244,13 @@ are_laid o volume root n cs h =
       rises = rises;
       long = length-laid [] all rises ∙ ap (λ (v : ℕ). end_of_parts v (rest ++ end)) (sym behind_list) ∙ are'.1;
     }
+
+-- the accessible bytes are all, whether the size is stored or not
+accessible_by : (o : Order) (b : List ℕ) (size : ℕ) (c : Bool) → has_crc o b ≡ c → size_word o b ≡ size
+    → length b ≡ size → length b ≤ 2 ^ 28 → accessible_size o b ≡ size
+unfolding accessible_size
+accessible_by o b size true e stored long l = rw e stored
+accessible_by o b size false e stored long l = rw e (omega (arith, long, l))
 
 -- what the bytes of a planned volume are
 pub record IsImage (o : Order) (b : List ℕ) (root : Inode) (n : Names) (cs : List (List ℕ)) : Type 0 where
@@ -310,7 +319,8 @@ is_image o volume root n cs h =
       within = omega (arith, up, lb);
       room = omega (arith, up, room);
     } in
-    let access : accessible_size o b ≡ size = rw (says.flags_are, says.size_is) refl in
+    let access : accessible_size o b ≡ size =
+    accessible_by o b size (has_crc o b) refl says.size_is lb (omega (arith, lb, room)) in
     let sizes = says.size_is in
     let marks = says.flags_are in
     let offset_is = read.offset_is in
@@ -355,11 +365,19 @@ pub has_length : (o : Order) (volume : List ℕ) (root : Inode) (n : Names) (cs 
     → IsPlanned volume root n cs → length (layout o volume root n cs) ≡ size_of n
 has_length o volume root n cs h = (is_image o volume root n cs h).long
 
-pub has_name : (o : Order) (volume : List ℕ) (root : Inode) (n : Names) (cs : List (List ℕ))
-    → IsPlanned volume root n cs
-    → take 16 (drop 48 (layout o volume root n cs)) ≡ volume ++ replicate (16 - length volume) 0
+-- the form of a layout, whose crc is that of its bytes
+pub record IsFormed (o : Order) (volume : List ℕ) (root : Inode) (n : Names) (b : List ℕ) : Type 0 where
+  pub more : List ℕ
+  pub crc : ℕ
+  pub is : b ≡ front o (size_of n) (word_bytes o crc ++ behind o volume root n more)
+  pub small : crc < 2 ^ 32
+  pub of_bytes : crc ≡ crc_of (without_crc b)
+  pub has36 : HasAt b 36 (behind o volume root n more)
+
+pub formed : (o : Order) (volume : List ℕ) (root : Inode) (n : Names) (cs : List (List ℕ))
+    → IsFormed o volume root n (layout o volume root n cs)
 unfolding layout with_part size_of superblock
-has_name o volume root n cs h =
+formed o volume root n cs =
     let s = first_state n in
     let size = size_of n in
     let sb = superblock o volume root n in
@@ -373,5 +391,19 @@ has_name o volume root n cs h =
     let w = crc_of (front o size (word_bytes o 0 ++ back)) in
     let b = with_crc o u in
     let bform : b ≡ front o size (word_bytes o w ++ back) = ap (with_crc o) form ∙ after_crc o size back in
-    let has36 : HasAt b 36 back = ([], ap (drop 36) bform ∙ drop_crc o size w back ∙ sym (append-nil back)) in
-    name_says b volume h.short (name_at o b volume root n keeps.0 has36)
+    record {
+      more = keeps.0;
+      crc = w;
+      is = bform;
+      small = crc_small (front o size (word_bytes o 0 ++ back));
+      of_bytes = ap crc_of (sym (ap without_crc bform ∙ no_crc o size w back));
+      has36 = ([], ap (drop 36) bform ∙ drop_crc o size w back ∙ sym (append-nil back));
+    }
+
+pub has_name : (o : Order) (volume : List ℕ) (root : Inode) (n : Names) (cs : List (List ℕ))
+    → IsPlanned volume root n cs
+    → take 16 (drop 48 (layout o volume root n cs)) ≡ volume ++ replicate (16 - length volume) 0
+has_name o volume root n cs h =
+    let b = layout o volume root n cs in
+    let f = formed o volume root n cs in
+    name_says b volume h.short (name_at o b volume root n f.more f.has36)

@@ -21,7 +21,7 @@ use Rattle.cramfs_layout.proofs.Stored.{parts_both}
 use Rattle.cramfs_layout.proofs.Image.{all_parts, are_laid}
 use Rattle.cramfs_layout.proofs.Tabled.{IsTabled, all_tabled, IsBare, entries_bare, below_bare}
 use Rattle.cramfs_layout.proofs.Runs.{IsRun, IsIn, runs, runs_fresh, are_runs}
-use Rattle.cramfs_layout.proofs.Shown.{Out, OutOf, OutOfItem, all_out}
+use Rattle.cramfs_layout.proofs.Shown.{Out, OutOf, OutOfItem, OfSection, OfItem, all_of}
 use Rattle.cramfs_layout.proofs.Covered.{list_out, covered}
 use Rattle.cramfs_layout.proofs.Sectioned.{rise}
 use Rattle.cramfs_layout.proofs.Composed.{Stands, entries_stand, below_stand}
@@ -90,8 +90,9 @@ module _ (o : Order) (volume : List ℕ) (root : Inode) (n : Names) (cs : List (
       let more = outside p xs l.1 k.1 in
       ((subst (λ (v : ℕ). Out p x.place v) l.0 k.0, more.0), more.1)
 
-  items_out : (p : ℕ) → Every (OutOf p) (sections_from [] 1 others) → Every (OutOfItem p) others
-  items_out p out =
+  -- what holds of all sections holds of all items
+  pub of_items : (Q : ℕ → ℕ → Type 0) → Every (OfSection Q) (sections_from [] 1 others) → Every (OfItem Q) others
+  of_items Q holds =
       let s = first_state n in
       let R = runs s n in
       let es = entries o 76 s n in
@@ -102,7 +103,7 @@ module _ (o : Order) (volume : List ℕ) (root : Inode) (n : Names) (cs : List (
       let bare = every_join IsBare es bs (entries_bare o 76 s n) (below_bare o s n) in
       let lens = every_weaker (IsFilled o cs whole) (λ (i : Item). i.len ≢ 0 → length (bytes_of cs i.fill) ≡ i.len)
       (λ i k u. (k u).0) others filled in
-      all_out cs s.at (after_names s n).at R (are_runs cs s n h.well) (omega arith) p 1 others lens tabled bare out
+      all_of cs s.at (after_names s n).at R (are_runs cs s n h.well) (omega arith) Q 1 others lens tabled bare holds
 
   zeros : (p : ℕ) → Every (IsOutside p) sections → get_or whole p 0 ≡ 0
   zeros p k =
@@ -110,7 +111,7 @@ module _ (o : Order) (volume : List ℕ) (root : Inode) (n : Names) (cs : List (
       let es = entries o 76 s n in
       let bs = below o s n in
       let out = outside p (sections_of all) long k in
-      let items = items_out p (order_back (OutOf p) (sections_from [] 1 others) out.0.1) in
+      let items = of_items (Out p) (order_back (OutOf p) (sections_from [] 1 others) out.0.1) in
       let here = every_left (OutOfItem p) es bs items in
       let under = every_right (OutOfItem p) es bs items in
       let list = subst (λ (v : ℕ). Out p 76 v) (sym (length-list o s n)) (list_out o p 76 s n here) in

@@ -10,6 +10,7 @@ pub mod Known
 pub mod Whole
 pub mod Super
 pub mod Image
+pub mod Sealed
 pub mod Values
 pub mod Paths
 pub mod Filled
@@ -25,4 +26,5 @@ pub mod Sectioned
 pub mod Composed
 pub mod Held
 pub mod Joined
+pub mod Compact
 mod Examples

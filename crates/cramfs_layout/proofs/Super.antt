@@ -10,9 +10,9 @@ use Rattle.rom_fields.specs.Parts.{Part, end_of_part, Rises, end_of_parts}
 use Rattle.manifest_tree.specs.Names.{Inode, Names, nothing, leaf, link, subdirectory}
 use Rattle.rom_fields.specs.Parts.{part}
 use Rattle.cramfs_layout.specs.Layout.{word_bytes, pad4, entry_bytes, list_len, list_bytes, size_by, table_by}
-use Rattle.cramfs_layout.specs.Layout.{root_offset, count, State, Kept, nowhere, shared, fresh, kept, data_of, after_by}
-use Rattle.cramfs_layout.specs.Layout.{after_file, after_list, after_names, list_offset, pointers, file_parts, parts}
-use Rattle.cramfs_layout.specs.Layout.{flags, size_of, superblock, with_crc}
+use Rattle.cramfs_layout.specs.Layout.{root_offset, files_of, State, Kept, nowhere, shared, fresh, kept, data_of}
+use Rattle.cramfs_layout.specs.Layout.{after_by, after_file, after_list, after_names, list_offset, pointers, file_parts}
+use Rattle.cramfs_layout.specs.Layout.{parts, flags, size_of, superblock, with_crc}
 use Rattle.cramfs_layout.specs.Wells.{IsFile, AreWell}
 use Rattle.cramfs_layout.proofs.Entries.{length-entry, length-word}
 use Rattle.cramfs_layout.proofs.Stored.{data_after}
@@ -25,7 +25,7 @@ front o size back =
 abbrev pub behind : Order → List ℕ → Inode → Names → List ℕ → List ℕ
 behind o volume root n more =
     word_bytes o 0 ++ (word_bytes o (size_of n / 4096)
-    ++ (word_bytes o (count n + 1) ++
+    ++ (word_bytes o (files_of n) ++
     ((volume ++ (replicate (16 - length volume) 0 ++ entry_bytes o [] root (list_len n) (root_offset n))) ++ more)))
 
 pub before_crc : (o : Order) (volume : List ℕ) (root : Inode) (n : Names) (more : List ℕ)

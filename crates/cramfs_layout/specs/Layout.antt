@@ -204,6 +204,10 @@ count (leaf name i after) = suc (count after)
 count (link name i after) = suc (count after)
 count (subdirectory name i own after) = suc (count own + count after)
 
+-- the number of files: the root and each entry
+abbrev pub files_of : Names → ℕ
+files_of n = count n + 1
+
 -- the state behind the superblock and the root's list
 abbrev pub first_state : Names → State
 first_state n = record { at = 76 + list_len n; tables = [] }
@@ -231,7 +235,7 @@ superblock o volume root n =
     word_bytes o magic ++ (word_bytes o (size_of n)
     ++ (word_bytes o flags ++ (word_bytes o 0 ++ (signature
     ++ (word_bytes o 0 ++ (word_bytes o 0
-    ++ (word_bytes o (size_of n / 4096) ++ (word_bytes o (count n + 1)
+    ++ (word_bytes o (size_of n / 4096) ++ (word_bytes o (files_of n)
     ++ (volume ++ (replicate (16 - length volume) 0
     ++ entry_bytes o [] root (list_len n) (root_offset n)))))))))))
 

@@ -3,10 +3,12 @@ ghost use Rattle.std.specs.Prelude.{◌≡◌, ◌++◌, ◌-◌, List, ℕ, ◌
 ghost use Rattle.std.specs.List.{AllByRecursion as Every};
 ghost use Rattle.cramfs_format.specs.declared.order.Order.{Order};
 ghost use Rattle.cramfs_format.specs.Tree.{CramfsTree};
+ghost use Rattle.cramfs_layout.specs.Compact.{AreCompact, HaveAlignments};
 ghost use Rattle.cramfs_layout.specs.Composed.{cramfs_part, composed};
 ghost use Rattle.cramfs_layout.specs.Items.{AreAlignedBy, items_of, sections_of};
 ghost use Rattle.cramfs_layout.specs.Layout.{layout, size_of, superblock};
 ghost use Rattle.cramfs_layout.specs.Planned.{IsPlanned};
+ghost use Rattle.cramfs_layout.specs.Sealed.{IsSealed};
 ghost use Rattle.cramfs_layout.specs.Sharing.{SourcesAreShared};
 ghost use Rattle.layout_terms.specs.Items.{SectionsRise};
 ghost use Rattle.layout_terms.specs.Placement.{AreInRuns};
@@ -45,6 +47,15 @@ pub fn layout_is_placed()
         ≡ volume ++ replicate (16 - length volume) 0 }
 {}
 
+/// Shows that the superblock of the layout states its length, its crc, its flags, and the numbers
+/// of its blocks and of the files of its tree.
+pub fn layout_is_sealed()
+    ensures { (o : Order) (volume : List ℕ) (root : Inode) (n : Names) (contents : List (List ℕ))
+        → IsPlanned volume root n contents → IsSealed o (layout o volume root n contents) }
+{
+    cramfs_format::laws::one_tree();
+}
+
 /// Shows that the layout's length depends only on the names and sizes.
 pub fn layout_length()
     ensures { (o : Order) (volume : List ℕ) (root : Inode) (n : Names) (contents : List (List ℕ))
@@ -59,6 +70,16 @@ pub fn sections_rise()
         (align : ℕ → ℕ)
         → IsPlanned volume root n contents → AreAlignedBy align n
         → SectionsRise 0 (size_of n) (sections_of (items_of o root n)) }
+{}
+
+/// Shows that between the sections of a planned volume is no room that alignment does not need.
+/// Contents begin less than the alignment of their source behind the section before them, and all
+/// else less than 4 bytes. The image ends less than 4,096 bytes behind the last section.
+pub fn sections_are_compact()
+    ensures { (o : Order) (volume : List ℕ) (root : Inode) (n : Names) (contents : List (List ℕ))
+        (align : ℕ → ℕ)
+        → IsPlanned volume root n contents → HaveAlignments align n
+        → AreCompact align 0 (size_of n) (sections_of (items_of o root n)) }
 {}
 
 /// Shows that the sections of such a volume, with their bytes at their offsets, zeros between them

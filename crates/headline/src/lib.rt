@@ -6,7 +6,8 @@
 //!   plain tree of files with a table of open descriptors. The tree is the one that the format
 //!   gives those bytes.
 //! - An image that was built from a manifest is accepted, and is served as the tree that the
-//!   manifest means. The same holds for an image that was streamed from files.
+//!   manifest means. The same holds for an image that was streamed from files. What the superblock
+//!   of such an image states is true of it.
 //! - Linux executes the programs of such a cramfs image in place, if their ALIGN is a multiple of
 //!   4,096 and the image is in flash.
 //! - Lent bytes are a slice of the image, at the reported offset.
@@ -48,6 +49,7 @@ ghost use Rattle.cramfs_format.specs.declared.order.Order.{Order};
 ghost use Rattle.cramfs_mapping.specs.Physmem.{Flash};
 ghost use Rattle.formats.specs.Format.{Format, cramfs};
 ghost use Rattle.manifest_layout.specs.Placement.{CopiesStand, HasVolume, IsPlaced};
+ghost use Rattle.manifest_layout.specs.Sealed.{HasSeal};
 ghost use Rattle.open_files.specs.Calls.{Of, Lent};
 ghost use Rattle.open_files.specs.Machine.{Open, image_calls, open_at};
 ghost use Rattle.path_walk.specs.Resolution.{resolution, tree_namespace};
@@ -67,7 +69,9 @@ ghost use Rattle.rom_tree.specs.declared.types.Limits.{Limits};
 ///
 /// Under the usual limits, an image that was built from a manifest is refused only if memory is
 /// refused. Otherwise it is served as the tree that the manifest means. Under other limits it is
-/// served as that tree if it is served at all. This holds in each format.
+/// served as that tree if it is served at all. This holds in each format. What the superblock of
+/// the image states is true of it: its length and its checksum, and in cramfs its flags and the
+/// numbers of its blocks and files.
 ///
 /// In that image, each file with the contents of a `file` line has its bytes in one run, which
 /// begins at a multiple of that line's ALIGN. The volume has the manifest's name. In cramfs, all
@@ -108,6 +112,8 @@ pub fn headline()
         (m : ManifestLines) (t : Node) (f : Flash) → Builds (cramfs o) text contents (Ok bytes)
         → manifest_of text ≡ Ok m → HasTree bytes usual_limits t → HoldsImage f bytes
         → AreInPlace o f t m × AreMappedWhole o f t m }
+    ensures sealed { (f : Format) (text : List ℕ) (contents : List (List ℕ)) (bytes : List ℕ)
+        → Builds f text contents (Ok bytes) → HasSeal f bytes }
 {
     built_in_place::laws::built_is_in_place();
     built_in_place::laws::built_is_mapped_whole();
@@ -140,7 +146,9 @@ pub fn built_again()
 /// of its source returned, one after the other, in the pass that wrote the image. If no source has
 /// a copy in the image, it is served as the tree that the manifest means with some contents of the
 /// sources. Its files, their copies and its volume's name are as in an image that was built, and so
-/// is what Linux maps of a cramfs image.
+/// is what Linux maps of a cramfs image. What its superblock states is true of it, too. If the
+/// sources are files that are opened by their names, `file_sources::laws::streamed_is_told` says of
+/// which file each read was.
 pub fn streamed()
     ensures each { (text : List ℕ) (p : Planned) (known : Option (List (List ℕ)))
         (old new : Option (List ℕ)) (r₀ r : Input) (w₀ w : Output) (o : Serving)
@@ -173,6 +181,10 @@ pub fn streamed()
         → (s : IsWritten known (form_in p.format p) (stored_in p.format) old new)
         → HasTree (image_with p s.rest) usual_limits t → HoldsImage f (image_with p s.rest)
         → AreInPlace o f t is.lines × AreMappedWhole o f t is.lines }
+    ensures sealed { (text : List ℕ) (p : Planned) (known : Option (List (List ℕ)))
+        (old new : Option (List ℕ)) → IsPlanOfText text p
+        → (s : IsWritten known (form_in p.format p) (stored_in p.format) old new)
+        → HasSeal p.format (image_with p s.rest) }
 {
     built_in_place::laws::streamed_is_in_place();
     image_build::laws::streamed_is_accepted();

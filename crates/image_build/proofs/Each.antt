@@ -1,6 +1,6 @@
 -- What is streamed as romfs is a layout of files with sources of their own.
 use Rattle.std.proofs.Common.{◌≡◌, ◌≢◌, ℕ, ◌+◌, ◌^◌, ◌<◌, List, [], map, length, drop, get_or, sym, ap, subst, ◌∙◌}
-use Rattle.std.proofs.Common.{arith, Option, None}
+use Rattle.std.proofs.Common.{arith}
 use Rattle.std.specs.List.{AllByRecursion as Every}
 use Rattle.record_forest.specs.Members.{Pairs}
 use Rattle.record_forest.proofs.Lists.{pairs_map, pairs_weaker, every_join}

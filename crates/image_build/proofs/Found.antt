@@ -1,20 +1,19 @@
 -- The contents of each file of a romfs layout are in a segment, so what holds of those of segments holds of all.
-use Rattle.std.proofs.Common.{◌≡◌, ◌≢◌, ℕ, ◌+◌, ◌==◌, Bool, true, false, if◌then◌else◌, List, [], ◌∷◌, ◌++◌, map}
+use Rattle.std.proofs.Common.{◌≡◌, ◌≢◌, ℕ, ◌+◌, Bool, if◌then◌else◌, List, [], ◌∷◌, map}
 use Rattle.std.proofs.Common.{length, get_or, Option, Some, None, refl, sym, ap, subst, ◌∙◌, arith, inl, inr}
 use Rattle.std.proofs.lemmas.Bool.{ne_eqb}
 use Rattle.std.proofs.lemmas.Bool.Decides.{eqb_tells}
 use Rattle.std.specs.List.{AllByRecursion as Every}
 use Rattle.record_forest.specs.Members.{Pairs}
-use Rattle.record_forest.proofs.Lists.{every_weaker, every_both, every_join, every_left, every_right}
+use Rattle.record_forest.proofs.Lists.{every_weaker, every_join, every_left, every_right}
 use Rattle.image_stream.specs.Sources.{content_of}
 use Rattle.layout_terms.specs.Files.{files}
-use Rattle.layout_terms.specs.Items.{Item, Section, Body, section, super, record_of, table_of, text_of, contents_of}
+use Rattle.layout_terms.specs.Items.{Item, Section, Body, super, record_of, table_of, text_of, contents_of}
 use Rattle.layout_terms.specs.Items.{fill_section, bytes_section}
 use Rattle.manifest_tree.specs.Names.{Fill, no_bytes, text, source, Inode, Names, nothing, leaf, link, subdirectory}
 use Rattle.romfs_format.specs.Record.{pad16}
 use Rattle.romfs_layout.specs.Items.{item_of, sections_from}
 use Rattle.romfs_layout.specs.Layout.{Header, headers, all_headers, leaf_end, header_end, ends, place_with, placed}
-use Rattle.romfs_layout.specs.Layout.{record_len}
 use Rattle.romfs_layout.specs.Wells.{AreWell, file_of}
 use Rattle.romfs_write.specs.Form.{segment_by, segment_of}
 use Rattle.image_build.proofs.Alike.{Says}

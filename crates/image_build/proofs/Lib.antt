@@ -18,3 +18,4 @@ mod Found
 mod Each
 mod Accepting
 pub mod Placing
+mod Sealing

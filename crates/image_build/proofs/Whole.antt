@@ -8,6 +8,7 @@ use Rattle.formats.specs.Format.{Format, romfs, cramfs}
 use Rattle.manifest_layout.specs.Format.{layout_of}
 use Rattle.manifest_layout.specs.Misfit.{HasNoMisfit}
 use Rattle.manifest_layout.specs.Placement.{CopiesStand, HasVolume, IsPlaced}
+use Rattle.manifest_layout.specs.Sealed.{HasSeal}
 use Rattle.manifest_tree.specs.Meant.{IsMeant}
 use Rattle.rom_faults.specs.declared.error.CheckError.{CheckError}
 use Rattle.rom_faults.specs.declared.error.CheckError.TheVariants as check
@@ -101,3 +102,13 @@ pub named : NamesVolume → (f : Format) (text : List ℕ) (cs : List (List ℕ)
 named law f text cs bytes x m e =
     subst (λ (k : ManifestLines). HasVolume f bytes k.volume) (same_lines text f cs bytes x m e)
     (subst (λ (b : List ℕ). HasVolume f b x.0.volume) (sym x.3.layout) (law f x.0 cs (text, x.1.manifest) x.2))
+
+-- what the superblock of a layout states is true
+abbrev pub SealsLayout : Type 0
+SealsLayout =
+    (f : Format) (m : ManifestLines) (cs : List (List ℕ)) → IsManifest m → HasNoMisfit f m (map length cs)
+    → HasSeal f (layout_of f m cs)
+
+pub sealed : SealsLayout → (f : Format) (text : List ℕ) (cs : List (List ℕ)) (bytes : List ℕ)
+    → Builds f text cs (Ok bytes) → HasSeal f bytes
+sealed law f text cs bytes x = subst (HasSeal f) (sym x.3.layout) (law f x.0 cs (text, x.1.manifest) x.2)

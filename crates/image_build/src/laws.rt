@@ -13,6 +13,7 @@ ghost use Rattle.manifest.specs.Lines.{ManifestLines};
 ghost use Rattle.formats.specs.Format.{Format};
 ghost use Rattle.manifest_layout.specs.Format.{HasUsualTree};
 ghost use Rattle.manifest_layout.specs.Placement.{CopiesStand, HasVolume, IsPlaced};
+ghost use Rattle.manifest_layout.specs.Sealed.{HasSeal};
 ghost use Rattle.manifest_tree.specs.Meant.{IsMeant};
 ghost use Rattle.plan_types.specs.Plans.{Planned};
 ghost use Rattle.rom_faults.specs.declared.error.CheckError.{CheckError};
@@ -34,7 +35,8 @@ pub fn one_answer()
 }
 
 /// Shows that a check of a built image under the usual limits finds no fault, and refuses nothing
-/// except memory. The tree that it finds is what the manifest means.
+/// except memory. The tree that it finds is what the manifest means. What the superblock states is
+/// true of the image.
 pub fn built_is_accepted()
     ensures faultless { (f : Format) (text : List ℕ) (contents : List (List ℕ)) (bytes : List ℕ)
         → Builds f text contents (Ok bytes) → IsFaultless bytes usual }
@@ -45,7 +47,10 @@ pub fn built_is_accepted()
         → Builds f text contents (Ok bytes) → (t : Node) → HasTree bytes usual t
         → (m : ManifestLines) × (manifest_of text ≡ Ok m)
         × IsMeant bytes t contents m (map length contents) }
+    ensures sealed { (f : Format) (text : List ℕ) (contents : List (List ℕ)) (bytes : List ℕ)
+        → Builds f text contents (Ok bytes) → HasSeal f bytes }
 {
+    manifest_layout::laws::layout_is_sealed();
     image_check::laws::exact();
     image_check::laws::one_tree();
 }
@@ -54,7 +59,8 @@ pub fn built_is_accepted()
 /// fault in it, and refuses nothing except memory. The tree that it finds is what the manifest
 /// means, if each `file` and each `same` line has contents of its own, of the planned size; these
 /// are what the reads of its source answered last. If no source has a copy, the image is what a
-/// build answers to some contents of the sources. `w` has the bytes that were written.
+/// build answers to some contents of the sources. What the superblock states is true of the image.
+/// `w` has the bytes that were written.
 pub fn streamed_is_accepted()
     ensures faultless { (text : List ℕ) (p : Planned) (known : Option (List (List ℕ)))
         (old new : Option (List ℕ)) → IsPlanOfText text p
@@ -74,10 +80,16 @@ pub fn streamed_is_accepted()
         (old new : Option (List ℕ)) → (is : IsPlanOfText text p) → HasNoCopies p.format is.lines
         → (w : IsWritten known (form_in p.format p) (stored_in p.format) old new)
         → IsBuiltOfSome text p (image_with p w.rest) }
+    ensures sealed { (text : List ℕ) (p : Planned) (known : Option (List (List ℕ)))
+        (old new : Option (List ℕ)) → IsPlanOfText text p
+        → (w : IsWritten known (form_in p.format p) (stored_in p.format) old new)
+        → HasSeal p.format (image_with p w.rest) }
 {
     manifest_layout::laws::layout_is_meant();
+    manifest_layout::laws::layout_is_sealed();
     manifest_layout::laws::fitting_is_planned();
     romfs_layout::laws::layout_has_tree();
+    romfs_layout::laws::layout_is_sealed();
     manifest_tree::laws::names_lead_to_files();
     image_check::laws::exact();
     image_check::laws::one_tree();

@@ -2,8 +2,9 @@
 //! `build_cramfs_big` return it in one call; `stream_through` and `stream` write the image of a
 //! plan to a writer. The image is accepted by a check, and has a known meaning.
 //!
-//! Proved in `laws`: each text and contents have exactly one answer, and a check finds no fault in
-//! a built or streamed image. `specs/Builds.antt` has the answers of a build.
+//! Proved in `laws`: each text and contents have exactly one answer. A check finds no fault in a
+//! built or streamed image, and what its superblock states is true of it. `specs/Builds.antt` has
+//! the answers of a build.
 #![tactic(auto)]
 
 mod build;

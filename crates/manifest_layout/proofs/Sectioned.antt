@@ -8,13 +8,16 @@ use Rattle.rom_fields.proofs.Padding.{pad-after}
 use Rattle.layout_terms.specs.Items.{SectionsRise}
 use Rattle.layout_terms.proofs.Sections.{rise_wider}
 use Rattle.romfs_layout.specs.Layout.{root_at, full_size_of}
+use Rattle.romfs_layout.proofs.Compact as romfs_compact
 use Rattle.romfs_layout.proofs.Sectioned as in_romfs
+use Rattle.cramfs_layout.proofs.Compact as cramfs_compact
 use Rattle.cramfs_layout.proofs.Sectioned as in_cramfs
 use Rattle.formats.specs.Format.{Format, romfs, cramfs}
 use Rattle.manifest_layout.specs.Format.{len_of, sections_of, IsPlannedBy}
+use Rattle.manifest_layout.specs.Compact.{IsCompact}
 use Rattle.manifest_layout.specs.Misfit.{HasNoMisfit}
 use Rattle.manifest_layout.proofs.Fitting.{fitting}
-use Rattle.manifest_layout.proofs.Sourced.{align_of, sourced}
+use Rattle.manifest_layout.proofs.Sourced.{align_of, sourced, have_in_cramfs, have_in_romfs}
 
 -- contents of given sizes
 zeros : List ℕ → List (List ℕ)
@@ -45,6 +48,23 @@ rise f m sizes h n =
     let e = lengths sizes in
     subst (λ (xs : List ℕ). SectionsRise 0 (len_of f m xs) (sections_of f m xs)) e
     (of_contents f m (zeros sizes) h (subst (HasNoMisfit f m) (sym e) n))
+
+compact_of : (f : Format) (m : ManifestLines) (cs : List (List ℕ)) → IsManifest m → HasNoMisfit f m (map length cs)
+    → IsCompact f m (map length cs)
+compact_of romfs m cs h n =
+    let sizes = map length cs in
+    romfs_compact.are_compact m.volume (root_of m.lines sizes) (tree_of m.lines sizes) cs (align_of m.lines)
+    (fitting romfs m cs h n) (have_in_romfs romfs m sizes h n)
+compact_of (cramfs o) m cs h n =
+    let sizes = map length cs in
+    cramfs_compact.are_compact o m.volume (root_of m.lines sizes) (tree_of m.lines sizes) cs (align_of m.lines)
+    (fitting (cramfs o) m cs h n) (have_in_cramfs (cramfs o) m sizes h n)
+
+pub compact : (f : Format) (m : ManifestLines) (sizes : List ℕ) → IsManifest m → HasNoMisfit f m sizes
+    → IsCompact f m sizes
+compact f m sizes h n =
+    let e = lengths sizes in
+    subst (IsCompact f m) e (compact_of f m (zeros sizes) h (subst (HasNoMisfit f m) (sym e) n))
 
 -- a manifest that fits can be laid out, whatever its sources of these sizes hold
 pub planned : (f : Format) (m : ManifestLines) (sizes : List ℕ) → IsManifest m → HasNoMisfit f m sizes

@@ -13,13 +13,15 @@ use Rattle.manifest.specs.declared.line.Word.{Word}
 use Rattle.manifest.specs.declared.line.Word.TheVariants.{Dir, File, Slink, Block, Character, Fifo, Socket, Hard, Same}
 use Rattle.manifest.specs.Lines.{ManifestLines, is_file, is_hard, filed}
 use Rattle.manifest.specs.Grammar.{IsManifest}
-use Rattle.manifest_tree.specs.Names.{source, Inode, Names, nothing, leaf, link, subdirectory}
+use Rattle.manifest_tree.specs.Names.{Fill, no_bytes, text, source, Inode, Names, nothing, leaf, link, subdirectory}
 use Rattle.manifest_tree.specs.Tree.{What, a_leaf, a_link, a_directory, what_by, sources_before, with_contents}
 use Rattle.manifest_tree.specs.Tree.{inode_by}
 use Rattle.manifest_tree.specs.Tree.{inode_of, grown, tree_of}
-use Rattle.manifest_tree.proofs.Law.{grown_by}
+use Rattle.romfs_layout.specs.Compact.{align_by as romfs_align_by, HaveAlignments as RomfsHaveAlignments}
 use Rattle.cramfs_layout.specs.Items.{AreAlignedBy}
+use Rattle.cramfs_layout.specs.Compact.{align_by, HaveAlignments}
 use Rattle.formats.specs.Format.{Format}
+use Rattle.manifest_layout.specs.Compact.{is_source, align_or, source_align}
 use Rattle.manifest_layout.specs.Misfit.{HasNoMisfit}
 use Rattle.manifest_layout.proofs.Sorted.{HoldAll, last_of}
 use Rattle.manifest_layout.proofs.Led.{HasFile, filed_member}
@@ -76,16 +78,8 @@ same_number x y ls h k f g e = elim (cases_lt x.number y.number) [
   ]
 ]
 
--- the `file` line of a source
-abbrev pub is_of : List Line → ℕ → Line → Bool
-is_of all k y = is_file y.word && (sources_before y.number all == k)
-
-abbrev pub align_or : Option Line → ℕ
-align_or None = 4
-align_or (Some y) = y.align
-
 abbrev pub align_of : List Line → ℕ → ℕ
-align_of all k = align_or (find (is_of all k) all)
+align_of all k = source_align all k
 
 finds : (p : Line → Bool) (ls : List Line) (x : Line) → Has (λ l. l ≡ x) ls → p x ≡ true
     → (y : Line) × (find p ls ≡ Some y) × Has (λ l. l ≡ y) ls × (p y ≡ true)
@@ -107,8 +101,8 @@ align_is : (all : List Line) (x : Line) → Pairs (λ l k. l.number ≢ k.number
     → is_file x.word ≡ true → align_of all (sources_before x.number all) ≡ x.align
 align_is all x p h f =
     let k = sources_before x.number all in
-    let test : is_of all k x ≡ true = rw (f, eq-eqb k k refl) refl in
-    let y = finds (is_of all k) all x h test in
+    let test : is_source all k x ≡ true = rw (f, eq-eqb k k refl) refl in
+    let y = finds (is_source all k) all x h test in
     let t = both_true (is_file y.0.word) (sources_before y.0.number all == k) y.3 in
     let e : sources_before y.0.number all ≡ k =
     elim (eqb_tells (sources_before y.0.number all) k)
@@ -124,41 +118,55 @@ align_is all x p h f =
     ] in
     ap align_or y.1 ∙ same
 
--- the file of a name is aligned as the `file` line of its source
+-- the file of a name is aligned as the `file` line of its source, or at 4
 abbrev IsSourced : List Line → List ℕ → What → Type 0
-IsSourced all name (a_leaf i) = (k : ℕ) → i.fill ≡ source k → i.align ≡ align_of all k
+IsSourced all name (a_leaf i) = i.align ≡ align_by (align_of all) i.fill
 IsSourced all name (a_link i) = Unit {0}
 IsSourced all name (a_directory i) = Unit {0}
 
 aligned_by : (all : List Line) (n : Names) → HoldAll (IsSourced all) n → AreAlignedBy (align_of all) n
 aligned_by all nothing h = tt
-aligned_by all (leaf name i after) h = (h.0, aligned_by all after h.1)
+aligned_by all (leaf name i after) h = ((λ k e. h.0 ∙ ap (align_by (align_of all)) e), aligned_by all after h.1)
 aligned_by all (link name i after) h = aligned_by all after h.1
 aligned_by all (subdirectory name i own after) h = (aligned_by all own h.1, aligned_by all after h.2)
 
-same_source : {j k : ℕ} → source j ≡ source k → j ≡ k
-same_source e = cc
+in_cramfs : (all : List Line) (n : Names) → HoldAll (IsSourced all) n → HaveAlignments (align_of all) n
+in_cramfs all nothing h = tt
+in_cramfs all (leaf name i after) h = (h.0, in_cramfs all after h.1)
+in_cramfs all (link name i after) h = in_cramfs all after h.1
+in_cramfs all (subdirectory name i own after) h = (in_cramfs all own h.1, in_cramfs all after h.2)
+
+-- the same in romfs, which has the same alignments
+same_align : (align : ℕ → ℕ) (f : Fill) → align_by align f ≡ romfs_align_by align f
+same_align align no_bytes = refl
+same_align align (text t) = refl
+same_align align (source k) = refl
+
+in_romfs : (all : List Line) (n : Names) → HoldAll (IsSourced all) n → RomfsHaveAlignments (align_of all) n
+in_romfs all nothing h = tt
+in_romfs all (leaf name i after) h = (h.0 ∙ same_align (align_of all) i.fill, in_romfs all after h.1)
+in_romfs all (link name i after) h = in_romfs all after h.1
+in_romfs all (subdirectory name i own after) h = (in_romfs all own h.1, in_romfs all after h.2)
 
 contents_sourced : (all : List Line) (sizes : List ℕ) (l : Line) (o : Option Line)
     → Pairs (λ l k. l.number ≢ k.number) all
     → ((x : Line) → o ≡ Some x → Has (λ y. y ≡ x) all × (is_file x.word ≡ true))
-    → (k : ℕ) → (with_contents all sizes l o).fill ≡ source k → (with_contents all sizes l o).align ≡ align_of all k
-contents_sourced all sizes l None p h k e = absurd (cc)
-contents_sourced all sizes l (Some x) p h k e =
-    let m = h x refl in sym (align_is all x p m.0 m.1) ∙ ap (align_of all) (same_source e)
+    → (with_contents all sizes l o).align ≡ align_by (align_of all) (with_contents all sizes l o).fill
+contents_sourced all sizes l None p h = refl
+contents_sourced all sizes l (Some x) p h = let m = h x refl in sym (align_is all x p m.0 m.1)
 
 inode_sourced : (all : List Line) (sizes : List ℕ) (l : Line) (w : Word) → Pairs (λ l k. l.number ≢ k.number) all
     → ((x : Line) → filed (reverse all) l.path ≡ Some x → Has (λ y. y ≡ x) all × (is_file x.word ≡ true))
-    → (k : ℕ) → (inode_by all sizes w l).fill ≡ source k → (inode_by all sizes w l).align ≡ align_of all k
-inode_sourced all sizes l Dir p h k e = absurd (cc)
-inode_sourced all sizes l File p h k e = contents_sourced all sizes l (filed (reverse all) l.path) p h k e
-inode_sourced all sizes l Slink p h k e = absurd (cc)
-inode_sourced all sizes l Block p h k e = absurd (cc)
-inode_sourced all sizes l Character p h k e = absurd (cc)
-inode_sourced all sizes l Fifo p h k e = absurd (cc)
-inode_sourced all sizes l Socket p h k e = absurd (cc)
-inode_sourced all sizes l Hard p h k e = absurd (cc)
-inode_sourced all sizes l Same p h k e = contents_sourced all sizes l (filed (reverse all) l.path) p h k e
+    → (inode_by all sizes w l).align ≡ align_by (align_of all) (inode_by all sizes w l).fill
+inode_sourced all sizes l Dir p h = refl
+inode_sourced all sizes l File p h = contents_sourced all sizes l (filed (reverse all) l.path) p h
+inode_sourced all sizes l Slink p h = refl
+inode_sourced all sizes l Block p h = refl
+inode_sourced all sizes l Character p h = refl
+inode_sourced all sizes l Fifo p h = refl
+inode_sourced all sizes l Socket p h = refl
+inode_sourced all sizes l Hard p h = refl
+inode_sourced all sizes l Same p h = contents_sourced all sizes l (filed (reverse all) l.path) p h
 
 -- a member is in the reversed list, too
 has_push : {X : Type 0} (P : X → Type 0) (xs : List X) (x : X) → Has P xs ⊎ P x → Has P (xs ++ x ∷ [])
@@ -188,16 +196,16 @@ pairs_reverse R flip (x ∷ xs) p = subst (Pairs R) (sym (reverse-append (x ∷ 
 leaf_sourced : (m : ManifestLines) (sizes : List ℕ) (latest : List Line) → reverse m.lines ≡ latest
     → m.lines ≡ reverse latest → Pairs (λ l k. l.number ≢ k.number) m.lines
     → (l : Line) (file : HasFile m.lines sizes latest l)
-    → is_hard l.word ≡ false → (k : ℕ) → file.inode.fill ≡ source k → file.inode.align ≡ align_of m.lines k
+    → is_hard l.word ≡ false → file.inode.align ≡ align_by (align_of m.lines) file.inode.fill
 unfolding inode_of
-leaf_sourced m sizes latest back front apart l file h k e =
+leaf_sourced m sizes latest back front apart l file h =
     let own = file.own h in
     let found : (x : Line) → filed (reverse m.lines) l.path ≡ Some x
     → Has (λ y. y ≡ x) m.lines × (is_file x.word ≡ true) = λ x g.
     let r = filed_member (reverse m.lines) l.path x g in
     (subst (Has (λ y. y ≡ x)) (sym front) (has_reverse (λ y. y ≡ x) latest (subst (Has (λ y. y ≡ x)) back r.0)), r.1) in
-    ap (λ (i : Inode). i.align) own ∙ inode_sourced m.lines sizes l l.word apart found k
-    (sym (ap (λ (i : Inode). i.fill) own) ∙ e)
+    subst (λ (i : Inode). i.align ≡ align_by (align_of m.lines) i.fill) (sym own)
+    (inode_sourced m.lines sizes l l.word apart found)
 
 sourced_by : (m : ManifestLines) (sizes : List ℕ) (latest : List Line) → reverse m.lines ≡ latest
     → m.lines ≡ reverse latest → Pairs (λ l k. l.number ≢ k.number) m.lines
@@ -220,10 +228,10 @@ sourced_by m sizes latest back front apart l file name Hard e = tt
 sourced_by m sizes latest back front apart l file name Same e =
     leaf_sourced m sizes latest back front apart l file (ap is_hard e)
 
-pub sourced : (f : Format) (m : ManifestLines) (sizes : List ℕ) → IsManifest m → HasNoMisfit f m sizes
-    → AreAlignedBy (align_of m.lines) (tree_of m.lines sizes)
+all_sourced : (f : Format) (m : ManifestLines) (sizes : List ℕ) → IsManifest m → HasNoMisfit f m sizes
+    → HoldAll (IsSourced m.lines) (tree_of m.lines sizes)
 unfolding tree_of
-sourced f m sizes h none =
+all_sourced f m sizes h none =
     let k = known f m sizes h none.lines in
     let latest = k.0 in
     let w = k.1 in
@@ -234,6 +242,18 @@ sourced f m sizes h none =
     λ l here file n ns e. sourced_by m sizes latest w.back w.reversed apart l file (last_of n ns) l.word refl in
     let g = grown_is (IsSourced m.lines) m.lines sizes latest latest w.checked w.have w.apart w.files w.faultless
     (every_of (Gives (IsSourced m.lines) m.lines sizes latest) latest gives) in
-    subst (λ (n : Names). AreAlignedBy (align_of m.lines) n)
-    (ap (λ (ls : List Line). grown m.lines sizes ls nothing) (sym w.reversed))
-    (aligned_by m.lines (grown_by m.lines sizes latest) g.hold)
+    subst (λ (n : Names). HoldAll (IsSourced m.lines) n)
+    (ap (λ (ls : List Line). grown m.lines sizes ls nothing) (sym w.reversed)) g.hold
+
+pub sourced : (f : Format) (m : ManifestLines) (sizes : List ℕ) → IsManifest m → HasNoMisfit f m sizes
+    → AreAlignedBy (align_of m.lines) (tree_of m.lines sizes)
+sourced f m sizes h none = aligned_by m.lines (tree_of m.lines sizes) (all_sourced f m sizes h none)
+
+-- the files ask for these alignments
+pub have_in_cramfs : (f : Format) (m : ManifestLines) (sizes : List ℕ) → IsManifest m → HasNoMisfit f m sizes
+    → HaveAlignments (align_of m.lines) (tree_of m.lines sizes)
+have_in_cramfs f m sizes h none = in_cramfs m.lines (tree_of m.lines sizes) (all_sourced f m sizes h none)
+
+pub have_in_romfs : (f : Format) (m : ManifestLines) (sizes : List ℕ) → IsManifest m → HasNoMisfit f m sizes
+    → RomfsHaveAlignments (align_of m.lines) (tree_of m.lines sizes)
+have_in_romfs f m sizes h none = in_romfs m.lines (tree_of m.lines sizes) (all_sourced f m sizes h none)

@@ -3,3 +3,5 @@ pub mod Format
 pub mod Misfit
 pub mod Tests
 pub mod Placement
+pub mod Sealed
+pub mod Compact

@@ -3,12 +3,14 @@ ghost use Rattle.std.specs.Prelude.{◌≡◌, List, ℕ, Option, MatchOption, m
 ghost use Rattle.layout_terms.specs.Items.{SectionsRise};
 ghost use Rattle.manifest.specs.Grammar.{IsManifest};
 ghost use Rattle.manifest.specs.Lines.{ManifestLines};
+ghost use Rattle.manifest_layout.specs.Compact.{IsCompact};
 ghost use Rattle.manifest_layout.specs.Composed.{composed_of};
 ghost use Rattle.formats.specs.Format.{Format};
 ghost use Rattle.manifest_layout.specs.Format.{HasUsualTree, IsPlannedBy, layout_of};
 ghost use Rattle.manifest_layout.specs.Format.{len_of, sections_of};
 ghost use Rattle.manifest_layout.specs.Misfit.{IsLeastMisfit, HasNoMisfit};
 ghost use Rattle.manifest_layout.specs.Placement.{CopiesStand, HasVolume, IsPlaced};
+ghost use Rattle.manifest_layout.specs.Sealed.{HasSeal};
 ghost use Rattle.manifest_tree.specs.Meant.{IsMeant};
 ghost use Rattle.rom_faults.specs.declared.fault.Fault.{Fault};
 ghost use Rattle.rom_tree.specs.Tree.{Node};
@@ -68,12 +70,31 @@ pub fn layout_is_placed()
     fitting_is_planned();
 }
 
+/// Shows that the superblock of a manifest's layout states the length and the checksum that the
+/// layout has, and in cramfs also its flags and the numbers of its blocks and files.
+pub fn layout_is_sealed()
+    ensures { (f : Format) (m : ManifestLines) (contents : List (List ℕ)) → IsManifest m
+        → HasNoMisfit f m (map length contents) → HasSeal f (layout_of f m contents) }
+{
+    romfs_layout::laws::layout_is_sealed();
+    cramfs_layout::laws::layout_is_sealed();
+    fitting_is_planned();
+}
+
 /// Shows that the sections of a manifest that fits are one after the other, none is empty, and the
 /// last ends within the image.
 pub fn sections_rise()
     ensures { (f : Format) (m : ManifestLines) (sizes : List ℕ) → IsManifest m
         → HasNoMisfit f m sizes
         → SectionsRise 0 (len_of f m sizes) (sections_of f m sizes) }
+{}
+
+/// Shows that between these sections is no room that the format and the ALIGN of the `file` lines
+/// do not need.
+pub fn sections_are_compact()
+    ensures { (f : Format) (m : ManifestLines) (sizes : List ℕ) → IsManifest m
+        → HasNoMisfit f m sizes
+        → IsCompact f m sizes }
 {}
 
 /// Shows that the sections of a manifest that fits, each with its bytes at its offset, with zeros

@@ -123,7 +123,7 @@ module _ (volume : List ℕ) (size : ℕ) (cs : List (List ℕ)) (all : List Ite
 length-superblock : (size : ℕ) (volume : List ℕ) → length (superblock size volume) ≡ root_at volume
 length-superblock size volume = let e = length-padded_name volume in omega (arith, e)
 
-all_behind : (r : ℕ) (root : Inode) (n : Names) → Every DataBehind (all_headers r root n)
+pub all_behind : (r : ℕ) (root : Inode) (n : Names) → Every DataBehind (all_headers r root n)
 all_behind r root n =
     ((λ z. absurd (z refl)), ((λ z. absurd (z refl)), data_behind (place_with (placed (r + 64) n)) r (r + 64) n))
 

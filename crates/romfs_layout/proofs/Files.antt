@@ -28,6 +28,7 @@ pub record IsAt (b : List ℕ) (cs : List (List ℕ)) (i : Inode) (p : ℕ) : Ty
   pub even : p % 16 ≡ 0
   pub kind : type_of b p ≡ number_of i.kind
   pub mode : mode_named (number_of i.kind) (executable b p) ≡ i.mode
+  pub bit : executable b p ≡ eqb (code_of i / 8 % 2) 1
   pub size : i.kind ≢ Directory → size_of b p ≡ i.size
   pub numbers : i.kind ≢ Directory → word_be b (p + 4) ≡ device_of i
   pub content : i.kind ≢ Directory → HasAt b (end_of b p) (bytes_of cs i.fill)
@@ -54,6 +55,11 @@ pub mode_is : (b : List ℕ) (i : Inode) (p q : ℕ) → HasMode i → word_be b
     → mode_named (number_of i.kind) (executable b p) ≡ i.mode
 unfolding code_of
 mode_is b i p q h e even = mode_by i.kind i.mode q (word_be b p) e even ∙ h
+
+pub bit_is : (b : List ℕ) (i : Inode) (p q : ℕ) → word_be b p ≡ q + code_of i → q % 16 ≡ 0
+    → executable b p ≡ eqb (code_of i / 8 % 2) 1
+bit_is b i p q e even =
+    let x : word_be b p / 8 % 2 ≡ code_of i / 8 % 2 = omega (arith, e, even) in ap (λ (w : ℕ). eqb w 1) x
 
 not_directory : (k : Kind) (i : Inode) → FitsKind k i → k ≢ Directory
 not_directory Directory i h = absurd h
@@ -87,6 +93,7 @@ files_at b cs Q at' dir from (leaf name i after) h reads k =
           even = place_even cs from name i h.1;
           kind = s.kind ∙ c.kind;
           mode = mode_is b i p (first_place q after) h.1.mode reads.0.word even;
+          bit = bit_is b i p (first_place q after) reads.0.word even;
           size = λ _. reads.0.size;
           numbers = λ _. reads.0.spec;
           content = λ _. subst (λ (x : ℕ). HasAt b x (bytes_of cs i.fill)) (sym reads.0.ends) reads.0.content;
@@ -111,6 +118,7 @@ files_at b cs Q at' dir from (subdirectory name i own after) h reads k =
           even = omega arith;
           kind = s.kind ∙ c.kind;
           mode = mode_is b i p (first_place q after) h.1.mode reads.0.word even;
+          bit = bit_is b i p (first_place q after) reads.0.word even;
           size = λ z. absurd (z h.1.kind);
           numbers = λ z. absurd (z h.1.kind);
           content = λ z. absurd (z h.1.kind);

@@ -161,7 +161,7 @@ unfolding name_of
 named b name k a = name_of-has b 0 name k a
 
 -- the sum of the first 512 bytes, or of all
-sum_at : (b : List ℕ) → words_sum (take 512 b) ≡ 0 → words_sum (take (min 512 (length b)) b) ≡ 0
+pub sum_at : (b : List ℕ) → words_sum (take 512 b) ≡ 0 → words_sum (take (min 512 (length b)) b) ≡ 0
 sum_at b e = elim (cases_lt 512 (length b)) [
   | inl l ↦ let m : min 512 (length b) ≡ 512 = omega arith in rw m e
   | inr l ↦ let m : take (min 512 (length b)) b ≡ take 512 b =

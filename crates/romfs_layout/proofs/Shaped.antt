@@ -21,7 +21,7 @@ use Rattle.manifest_tree.specs.Shape.{node_value, file_value, node_under, file_u
 use Rattle.romfs_layout.proofs.Places.{place_after, ends_after}
 use Rattle.romfs_layout.proofs.Headers.{code_is}
 use Rattle.layout_terms.proofs.Alike.{pairs_unmap}
-use Rattle.romfs_layout.proofs.Files.{IsAt, AtPlace, files_at, placed_files, mode_is}
+use Rattle.romfs_layout.proofs.Files.{IsAt, AtPlace, files_at, placed_files, mode_is, bit_is}
 use Rattle.romfs_layout.proofs.Stands.{says}
 use Rattle.romfs_layout.proofs.Entries.{made_of}
 use Rattle.romfs_layout.proofs.Image.{tree_in, is_image}
@@ -46,9 +46,9 @@ good_files cs from (subdirectory name i own after) h =
     )
 
 -- files are from `from` on and before `to`, and no two at one offset
-record AreApart (from to : ℕ) (xs : List Placed) : Type 0 where
-  within : Every (λ (x : Placed). (from ≤ x.place) × (x.place < to)) xs
-  apart : Pairs (λ (x y : Placed). x.place ≢ y.place) xs
+pub record AreApart (from to : ℕ) (xs : List Placed) : Type 0 where
+  pub within : Every (λ (x : Placed). (from ≤ x.place) × (x.place < to)) xs
+  pub apart : Pairs (λ (x y : Placed). x.place ≢ y.place) xs
 
 apart_join : (from mid to : ℕ) (xs ys : List Placed) → from ≤ mid → mid ≤ to → AreApart from mid xs
     → AreApart mid to ys → AreApart from to (xs ++ ys)
@@ -68,7 +68,8 @@ apart_join from mid to xs ys l m a c = record {
 apart_one : (from to : ℕ) (x : Placed) → from ≤ x.place → x.place < to → AreApart from to (x ∷ [])
 apart_one from to x l m = record { within = ((l, m), tt); apart = (tt, tt) }
 
-files_apart : (cs : List (List ℕ)) (from : ℕ) (n : Names) → AreWell cs n → AreApart from (ends from n) (placed from n)
+pub files_apart : (cs : List (List ℕ)) (from : ℕ) (n : Names) → AreWell cs n
+    → AreApart from (ends from n) (placed from n)
 files_apart cs from nothing h = record { within = tt; apart = tt }
 files_apart cs from (leaf name i after) h =
     let q = leaf_end from name i in
@@ -91,7 +92,7 @@ files_apart cs from (subdirectory name i own after) h =
     (apart_join (he + 64) q (ends q after) (placed (he + 64) own) (placed q after) o e
     (files_apart cs (he + 64) own h.2) (files_apart cs q after h.3))
 
-ino_at : (b : List ℕ) (p : ℕ) (es : Entries) → ino_of (node_of b p es) ≡ p
+pub ino_at : (b : List ℕ) (p : ℕ) (es : Entries) → ino_of (node_of b p es) ≡ p
 unfolding node_of attributes_at
 ino_at b p es = refl
 
@@ -136,6 +137,7 @@ ends_alike volume root n cs h q =
       even = held.even;
       kind = s0.kind ∙ c.kind;
       mode = mode_is b root r (r + 32) h.directory.mode reads.0.word (let even = held.even in omega arith);
+      bit = bit_is b root r (r + 32) reads.0.word (let even = held.even in omega arith);
       size = λ z. absurd (z h.directory.kind);
       numbers = λ z. absurd (z h.directory.kind);
       content = λ z. absurd (z h.directory.kind);

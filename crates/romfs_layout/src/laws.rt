@@ -9,11 +9,14 @@ ghost use Rattle.romfs_format.specs.Record.{before_zero};
 ghost use Rattle.romfs_format.specs.Tree.{RomfsTree};
 ghost use Rattle.layout_terms.specs.Items.{SectionsRise};
 ghost use Rattle.layout_terms.specs.Placement.{AreInRuns};
+ghost use Rattle.romfs_layout.specs.Compact.{AreCompact, HaveAlignments};
 ghost use Rattle.romfs_layout.specs.Composed.{romfs_part, composed};
 ghost use Rattle.romfs_layout.specs.Disjoint.{FilesAreApart};
 ghost use Rattle.romfs_layout.specs.Items.{items_of, sections_of};
 ghost use Rattle.romfs_layout.specs.Layout.{layout, full_size_of, root_at};
+ghost use Rattle.romfs_layout.specs.Marked.{AreMarked};
 ghost use Rattle.romfs_layout.specs.Planned.{IsPlanned};
+ghost use Rattle.romfs_layout.specs.Sealed.{IsSealed};
 
 /// Shows that the layout of a planned volume is a romfs image, within the usual limits, and that
 /// its tree has the shape of the volume's names.
@@ -41,6 +44,22 @@ pub fn layout_is_placed()
         → before_zero (drop 16 (layout volume root n contents)) ≡ volume }
 {}
 
+/// Shows that the superblock of the layout states the number of its accessible bytes and has their
+/// checksum, and that zeros are behind them, up to a multiple of 1,024 bytes.
+pub fn layout_is_sealed()
+    ensures { (volume : List ℕ) (root : Inode) (n : Names) (contents : List (List ℕ))
+        → IsPlanned volume root n contents → IsSealed (layout volume root n contents) }
+{}
+
+/// Shows that in that tree the header of a file has the bit "executable" exactly if the file is a
+/// directory or a regular file with the mode 0755.
+pub fn layout_is_marked()
+    ensures { (volume : List ℕ) (root : Inode) (n : Names) (contents : List (List ℕ))
+        → IsPlanned volume root n contents
+        → (t : Node) × RomfsTree (layout volume root n contents) (2 ^ 20) 64 t
+        × AreMarked (layout volume root n contents) t root n }
+{}
+
 /// Shows that the layout's length depends only on the names and sizes.
 pub fn layout_length()
     ensures { (volume : List ℕ) (root : Inode) (n : Names) (contents : List (List ℕ))
@@ -54,6 +73,18 @@ pub fn sections_rise()
     ensures { (volume : List ℕ) (root : Inode) (n : Names) (contents : List (List ℕ))
         → IsPlanned volume root n contents
         → SectionsRise 0 (full_size_of (root_at volume) n)
+        (sections_of volume (items_of volume root n)) }
+{}
+
+/// Shows that between these sections is no room that alignment does not need. Each header begins
+/// less than 16 bytes behind the section before it, or less than the alignment of its file's bytes;
+/// these are at once behind the header. The image ends less than 1,024 bytes behind the last
+/// section.
+pub fn sections_are_compact()
+    ensures { (volume : List ℕ) (root : Inode) (n : Names) (contents : List (List ℕ))
+        (align : ℕ → ℕ)
+        → IsPlanned volume root n contents → HaveAlignments align n
+        → AreCompact align (items_of volume root n) 0 (pad (full_size_of (root_at volume) n) 1024)
         (sections_of volume (items_of volume root n)) }
 {}
 

@@ -38,3 +38,6 @@ returns-clause-in_place c = λ o text contents bytes m t f b e h held. (
   c.built_is_in_place.ensures o text contents bytes m t f b e h held,
   c.built_is_mapped_whole.ensures o text contents bytes m t f b e h held,
 )
+
+pub returns-clause-sealed : goal.returns-clause-sealed
+returns-clause-sealed c = c.built_is_accepted.ensures.sealed

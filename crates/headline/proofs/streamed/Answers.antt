@@ -34,3 +34,6 @@ returns-clause-in_place c = λ o text p known old new t f is e s h held. (
   c.streamed_is_in_place.ensures.in_place o text p known old new t f is e s h held,
   c.streamed_is_in_place.ensures.whole o text p known old new t f is e s h held,
 )
+
+pub returns-clause-sealed : goal.returns-clause-sealed
+returns-clause-sealed c = c.streamed_is_accepted.ensures.sealed

@@ -1,5 +1,5 @@
 use Rattle.image_build.specs.Accepted.{usual}
-use Rattle.image_build.proofs.Whole.{tree_of, refused, meant}
+use Rattle.image_build.proofs.Whole.{tree_of, refused, meant, sealed}
 use Rattle.image_build.proofs.laws.built_is_accepted.Goals as goal
 
 pub returns-clause-faultless : goal.returns-clause-faultless
@@ -12,3 +12,6 @@ returns-clause-refused c = λ f text cs bytes e x r. refused bytes e (tree_of f 
 
 pub returns-clause-meant : goal.returns-clause-meant
 returns-clause-meant c = λ f text cs bytes. meant f text cs bytes (λ t u. c.one_tree.ensures bytes usual usual t u)
+
+pub returns-clause-sealed : goal.returns-clause-sealed
+returns-clause-sealed c = sealed c.layout_is_sealed.ensures

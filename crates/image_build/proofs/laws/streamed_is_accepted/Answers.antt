@@ -3,6 +3,7 @@ use Rattle.image_build.specs.Each.{IsReadIn}
 use Rattle.image_build.specs.Streamed.{image_with}
 use Rattle.image_build.proofs.Accepting.{laid_each, each_tree}
 use Rattle.image_build.proofs.Bodies.{none_read, of_read}
+use Rattle.image_build.proofs.Sealing.{sealed_by}
 use Rattle.image_build.proofs.Unknown.{unknown}
 use Rattle.image_build.proofs.Whole.{refused}
 use Rattle.image_build.proofs.laws.streamed_is_accepted.Goals as goal
@@ -34,4 +35,10 @@ returns-clause-each c = λ text p known old new t is w h.
 pub returns-clause-built : goal.returns-clause-built
 returns-clause-built c = λ text p known old new is none w.
     unknown c.fitting_is_planned.ensures c.layout_is_meant.ensures.tree text p is none (IsReadIn w.answers) w.rest
+    (of_read w.answers _ _ _ w.rest w.read)
+
+pub returns-clause-sealed : goal.returns-clause-sealed
+returns-clause-sealed c = λ text p known old new is w.
+    sealed_by c.fitting_is_planned.ensures c.layout_is_meant.ensures.tree c.layout_is_sealed-2.ensures
+    c.layout_is_sealed.ensures text p is (IsReadIn w.answers) (none_read w.answers) w.rest
     (of_read w.answers _ _ _ w.rest w.read)
