@@ -4,3 +4,5 @@ mod Flushed
 mod Scans
 pub mod Printed
 mod Capacities
+mod Meant
+mod Reported

@@ -7,3 +7,4 @@ pub mod Printed
 pub mod Changed
 pub mod Elf
 pub mod Warnings
+pub mod Reported

@@ -1,6 +1,10 @@
 //! Laws about what is printed.
-ghost use Rattle.std.specs.Prelude.{◌≡◌, ℕ, List, [], Ok, Option, false};
+ghost use Rattle.std.specs.Prelude.{◌≡◌, ◌≢◌, ℕ, List, [], Ok, Option, None, Some, false};
+ghost use Rattle.std.specs.Prelude.{IsSomeAnd};
+ghost use Rattle.std.specs.List.{Contains};
 ghost use Rattle.build_commands.specs.Inventory.{lines_found};
+ghost use Rattle.build_commands.specs.Reported.{AreOfOne, AreReportedAlike, kind_named};
+ghost use Rattle.build_commands.specs.Reported.{node_report, path_of, report_of};
 ghost use Rattle.build_commands.specs.Scanned.{AreTaken, Entry, lines_as, scan_text};
 ghost use Rattle.build_commands.specs.Nearest.{HasSmallNumbers, nearest_in};
 ghost use Rattle.build_commands.specs.declared.inventory.NamedFile.{NamedFile};
@@ -10,7 +14,12 @@ ghost use Rattle.manifest.specs.declared.line.Line.{Line};
 ghost use Rattle.manifest.specs.Printed as printed;
 ghost use Rattle.manifest.specs.Printed.{IsVolume, as_read, first_number, manifest_text};
 ghost use Rattle.manifest_layout.specs.Misfit.{HasBadAttribute};
+ghost use Rattle.manifest.specs.Paths.{names_of};
+ghost use Rattle.manifest_tree.specs.Meant.{IsMeant};
+ghost use Rattle.manifest_tree.specs.Shape.{node_under};
 ghost use Rattle.manifest_tree.specs.Tree.{inode_of};
+ghost use Rattle.rom_tree.specs.Tree.{Node, ino_of};
+ghost use Rattle.rom_tree.specs.declared.types.Kind.TheVariants as kind;
 ghost use Rattle.formats.specs.Format.{format_of};
 ghost use Rattle.formats.specs.declared.format.Format as code;
 
@@ -35,4 +44,27 @@ pub fn nearest_fits()
     ensures { (f : code.Format) (lines : List Line) (sizes : List ℕ) (l : Line)
         → is_hard l.word ≡ false → HasSmallNumbers f l
         → HasBadAttribute (format_of f) (inode_of lines sizes (nearest_in f l)) → ⊥ }
+{}
+
+/// States what the tree has that the manifest of a directory as it is means, if no format was
+/// chosen, if the grammar accepts each line, and if the system reports the same of a file by each
+/// of its names: each path that was found has a node with what was reported of it, and two names of
+/// one file that is no directory have one node.
+pub fn found_files_are_meant()
+    ensures reported { (found : List NamedFile) (volume image : List ℕ) (t : Node)
+        (contents : List (List ℕ)) (sizes : List ℕ)
+        → printed.AreTaken [] (first_number volume) (lines_found None found)
+        → IsMeant image t contents (as_read volume (lines_found None found)) sizes
+        → AreReportedAlike found
+        → (f : NamedFile) (q : List (List ℕ)) → Contains found f → names_of (path_of f) ≡ Some q
+        → IsSomeAnd (node_under q t) (λ x. node_report image x ≡ report_of f) }
+    ensures shared { (found : List NamedFile) (volume image : List ℕ) (t : Node)
+        (contents : List (List ℕ)) (sizes : List ℕ)
+        → printed.AreTaken [] (first_number volume) (lines_found None found)
+        → IsMeant image t contents (as_read volume (lines_found None found)) sizes
+        → (f g : NamedFile) (p q : List (List ℕ)) (x y : Node)
+        → Contains found f → Contains found g → AreOfOne f g
+        → kind_named f.kind ≢ kind.Directory → kind_named g.kind ≢ kind.Directory
+        → names_of (path_of f) ≡ Some p → names_of (path_of g) ≡ Some q
+        → node_under p t ≡ Some x → node_under q t ≡ Some y → ino_of x ≡ ino_of y }
 {}

@@ -1,7 +1,8 @@
 //! What the program prints when it builds images and scans directories.
 //!
 //! Proved: each function writes exactly its line or its manifest, or a prefix of it if a write
-//! failed; and a scan prints a manifest of exactly the names that it found (`laws`).
+//! failed; and a scan prints a manifest of exactly the names that it found, which means a tree of
+//! the files that were reported (`laws`).
 #![tactic(auto)]
 
 mod building;

@@ -51,7 +51,7 @@ order_equal Greater Less e h k = absurd (true≢false (sym k))
 order_equal Greater Equal e h k = absurd (true≢false (sym (ap is_eq e)))
 order_equal Greater Greater e h k = absurd (true≢false (sym (ap is_lt e)))
 
-same_path : (x y : List ℕ) → false ≡ is_lt (slice_cmp nat_cmp x y) → false ≡ is_lt (slice_cmp nat_cmp y x) → x ≡ y
+pub same_path : (x y : List ℕ) → false ≡ is_lt (slice_cmp nat_cmp x y) → false ≡ is_lt (slice_cmp nat_cmp y x) → x ≡ y
 same_path x y h k = (bytes_eq-Decides x y).0 (sym (is_eq-slice_cmp x y)
     ∙ order_equal (slice_cmp nat_cmp x y) (slice_cmp nat_cmp y x) (nat_list_cmp_total.antisymm x y) h k)
 
@@ -90,13 +90,13 @@ module _ (path : List ℕ) where
       let Q : Option ℕ → Type 0 = λ v. start_line path (Some p) v ≡ [] in
       moved_by p q (subst Q e (subst P d h))
 
-  start_none : (o u : Option ℕ) → ((p q : ℕ) → o ≡ Some p → u ≡ Some q → p ≡ q) → start_line path o u ≡ []
+  pub start_none : (o u : Option ℕ) → ((p q : ℕ) → o ≡ Some p → u ≡ Some q → p ≡ q) → start_line path o u ≡ []
   start_none None u h = refl
   start_none (Some p) None h = refl
   start_none (Some p) (Some q) h = moved_same path p q (h p q refl refl)
 
   module _ (a b : List ℕ) (x y : Node) where
-    alike_is : (places : Bool) → alike_lines places a b path x y ≡ attributes_line path (stat_of x) (stat_of y)
+    pub alike_is : (places : Bool) → alike_lines places a b path x y ≡ attributes_line path (stat_of x) (stat_of y)
         ++ (contents_line path (contents_of a x) (contents_of b y)
         ++ (if places then start_line path (start_of x) (start_of y) else []))
     unfolding alike_lines

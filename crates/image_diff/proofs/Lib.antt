@@ -4,3 +4,5 @@ pub mod Reached
 pub mod Sorting
 pub mod Stepped
 pub mod Printed
+pub mod Merged
+pub mod Due

@@ -27,7 +27,7 @@ Stand o b x = IsList o b most_records x.1 x.0
 abbrev pub to_come : Order → List ℕ → ℕ → List (ℕ × ℕ × ℕ) → List Record
 to_come o b n xs = come (cramfs_entry o b) (forest_at o b) number_of n xs
 
-whole : (o : Order) (b : List ℕ) → cramfs_listed o b
+pub whole : (o : Order) (b : List ℕ) → cramfs_listed o b
     ≡ root_entry root_place
     ∷ listed (cramfs_entry o b) 1 0 (grow most_records o b (list_end o b root_place) (list_start o b root_place))
 unfolding cramfs_listed cramfs_forest

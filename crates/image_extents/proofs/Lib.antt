@@ -7,3 +7,10 @@ pub mod Apart
 pub mod CramfsApart
 pub mod Texts
 pub mod Owners
+pub mod Shares
+pub mod Inside
+pub mod Named
+pub mod DataRuns
+pub mod Bytes
+pub mod RomfsBytes
+pub mod CramfsBytes

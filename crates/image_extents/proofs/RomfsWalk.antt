@@ -43,7 +43,7 @@ unfolding list_of following start_of
 below k b r true e = rw (eq-eqb r r refl, e, ends k b) refl
 below k b r false e = rw (eq-eqb r r refl, e, ends k b) (append-nil _)
 
-whole : (b : List ℕ) (r : ℕ) → romfs_listed b r
+pub whole : (b : List ℕ) (r : ℕ) → romfs_listed b r
     ≡ root_entry r ∷ listed (romfs_entry b) 1 0 (grow most_records b (start_of b r))
 unfolding romfs_listed romfs_forest
 whole b r = ap (λ (v : List Record). root_entry r ∷ v) (below most_records b r (heads_itself b r) refl)

@@ -4,3 +4,5 @@ pub mod Lines
 pub mod Sorted
 pub mod Apart
 pub mod Which
+pub mod Ranges
+pub mod Owned

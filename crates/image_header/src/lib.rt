@@ -2,7 +2,8 @@
 //! image.
 //!
 //! `specs/Names.antt` defines the identifier of a path, the names of macros and the string of a
-//! text.
+//! text. Proved: macros have different names, and the values of a file's macros are the place and
+//! the number of its bytes (`laws`).
 #![tactic(auto)]
 
 mod error;

@@ -1,0 +1,71 @@
+-- The macros of a file say where its bytes are.
+use Rattle.std.proofs.Common.{◌≡◌, ◌<◌, ◌≤◌, ◌%◌, ◌^◌, ℕ, zero, suc, ◌+◌, Bool, true, false, List, [], ◌∷◌}
+use Rattle.std.proofs.Common.{◌++◌, length}
+use Rattle.std.proofs.Common.{drop, get_or, refl, sym, ap, ◌∙◌, subst, arith, append-nil, Option, None, Some}
+use Rattle.std.proofs.lemmas.List.{drop_all}
+use Rattle.std.specs.Prelude.{codes, slice_index}
+use Rattle.rom_tree.proofs.Numbers.{length_row, row_at}
+use Rattle.rom_tree.specs.Names.{Name}
+use Rattle.rom_tree.specs.Tree.{Node, is_regular, places_of, row_from}
+use Rattle.image_info.specs.Runs.{Piece, piece, runs, runs_from, joined, GoOn}
+use Rattle.image_info.proofs.Pieces.{runs_nil, runs_first, runs_joined, runs_go}
+use Rattle.image_header.specs.Header.{address_macro, address_number, definition, length_number, macros, only_address}
+use Rattle.image_header.specs.Header.{name_macros, node_macros, header_text}
+use Rattle.image_header.specs.Names.{Address, Length, Path, text_of}
+use Rattle.image_header.specs.Values.{AreValues, FollowFrom, HasValues}
+
+-- bytes that follow one another are one run
+one_run : (p : ℕ) (ps : List ℕ) → FollowFrom p ps → runs ps ≡ piece p (length ps) 0 ∷ []
+one_run p ps h =
+    let n = length ps in
+    runs_first ps p 0 n h.0 (omega arith) (λ k l. h.1 k l) (λ l e. absurd (omega (arith, l)))
+    ∙ ap (λ (v : List Piece). piece p n 0 ∷ v) (ap (runs_from (0 + n)) (drop_all n ps (omega arith)) ∙ runs_nil (0 + n))
+
+-- and one run is of bytes that do
+one_follows : (ps : List ℕ) (r : Piece) → runs ps ≡ r ∷ [] → FollowFrom r.place ps
+one_follows ps r e =
+    let g : GoOn 0 (r ∷ []) (length ps) =
+    subst (λ (v : List Piece). GoOn 0 v (length ps)) e (runs_go 0 (length ps) ps (omega arith)) in
+    let j : row_from r.place r.count ≡ ps =
+    sym (append-nil (row_from r.place r.count)) ∙ (ap joined (sym e) ∙ runs_joined 0 ps) in
+    let l = length_row r.place r.count in
+    subst (FollowFrom r.place) j (
+      (let some = g.1 in omega (arith, l, some)),
+      λ k m. row_at r.place r.count k (omega (arith, m, l)),
+    )
+
+module _ (prefix : List ℕ) (base : ℕ) (path : List ℕ) where
+  some_address : (ps : List ℕ) (p : ℕ) → FollowFrom p ps
+      → address_macro prefix path (only_address base (runs ps))
+      ≡ definition prefix (Address path) (address_number ((base + p) % 2 ^ 64))
+  unfolding address_macro
+  some_address ps p h = ap (λ (v : List Piece). address_macro prefix path (only_address base v)) (one_run p ps h)
+
+  no_address : (ps : List ℕ) (rs : List Piece) → runs ps ≡ rs → ((p : ℕ) → FollowFrom p ps → ⊥)
+      → address_macro prefix path (only_address base rs) ≡ []
+  unfolding address_macro
+  no_address ps [] e h = refl
+  no_address ps (r ∷ []) e h = absurd (h r.place (one_follows ps r e))
+  no_address ps (r ∷ s ∷ rs) e h = refl
+
+  file_values : (x : Node) → is_regular x ≡ true → HasValues prefix base path x (node_macros prefix base path x)
+  unfolding macros length_number
+  file_values x e = record {
+    address = address_macro prefix path (only_address base (runs (places_of x)));
+    is = rw e refl;
+    address_if = some_address (places_of x);
+    address_only = no_address (places_of x) (runs (places_of x)) refl;
+  }
+
+  no_values : (x : Node) → is_regular x ≡ false → node_macros prefix base path x ≡ []
+  no_values x e = rw e refl
+
+pub values_are : (prefix : List ℕ) (base size : ℕ) (t : Node)
+    → AreValues prefix base size t (header_text prefix base size t)
+unfolding header_text
+values_are prefix base size t = record {
+  values = name_macros prefix base;
+  is = refl;
+  files = λ n e. file_values prefix base n.path n.node e;
+  others = λ n e. no_values prefix base n.path n.node e;
+}

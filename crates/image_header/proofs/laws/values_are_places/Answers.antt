@@ -1,0 +1,5 @@
+use Rattle.image_header.proofs.Values.{values_are}
+use Rattle.image_header.proofs.laws.values_are_places.Goals as goal
+
+pub returns : goal.returns
+returns c = λ prefix base size t. values_are prefix base size t
