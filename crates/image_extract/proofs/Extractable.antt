@@ -2,15 +2,19 @@
 use Rattle.std.proofs.Common.{◌≡◌, ◌≢◌, ℕ, zero, suc, ◌<◌, Bool, true, false, cond, List, [], ◌∷◌, ◌++◌, length, take}
 use Rattle.std.proofs.Common.{get_or}
 use Rattle.std.proofs.Common.{Option, Some, None, refl, sym, ap, subst, ◌∙◌, arith, length-take-le}
-use Rattle.std.proofs.lemmas.List.{get_or-take, take-take}
+use Rattle.std.proofs.Common.{map}
+use Rattle.std.proofs.lemmas.List.{get_or-map, get_or-take, length-map, take-take}
+use Rattle.std.proofs.lemmas.Map.Keys.{IsDistinct-from_apart}
+use Rattle.std.specs.Cmp.Lexicographic.{bytes_decides}
 use Rattle.std.specs.Prelude.{◌==◌}
-use Rattle.std.specs.List.{list_any}
-use Rattle.std.proofs.lemmas.Bool.{eq-eqb}
+use Rattle.std.specs.List.{list_any, IsDistinct}
+use Rattle.std.specs.Str.{bytes_eq}
+use Rattle.std.proofs.lemmas.Bool.{eq-eqb, false_from_ne_true}
 use Rattle.manifest.specs.Paths.{path_of as names_path, is_bad_name}
 use Rattle.manifest_tree.specs.Shape.{node_under}
 use Rattle.rom_tree.specs.declared.types.Kind.TheVariants as node_kind
 use Rattle.rom_tree.specs.Image.{Image, find_entry}
-use Rattle.rom_tree.specs.Names.{Name, node_names}
+use Rattle.rom_tree.specs.Names.{Name, names, node_names}
 use Rattle.rom_tree.specs.Tree.{Node, node, directory, regular, symlink, block, character, socket, fifo, entries_of}
 use Rattle.rom_tree.specs.Tree.{nodes}
 use Rattle.rom_tree.specs.Tree.{ino_of, kind_of, is_directory, IsIn}
@@ -20,6 +24,7 @@ use Rattle.image_manifest.specs.Members.{first_behind, place_of}
 use Rattle.image_manifest.proofs.Lawful.{AreLawful, AreSound, sound_node, plain_names, differ_node}
 use Rattle.image_manifest.proofs.Plain.{ArePlain, PathsDiffer, Leads, leads}
 use Rattle.image_manifest.proofs.Ways.{or_false}
+use Rattle.image_extract.specs.declared.giving.Giving.{Giving}
 use Rattle.image_extract.specs.Members.{file_by, made_of, member_behind, members_in, root_of}
 use Rattle.image_extract.proofs.Indexed.{length-members, member_is, first_place}
 use Rattle.image_extract.proofs.Known.{node_in, root_in, root_nothing}
@@ -144,7 +149,7 @@ is_further (node a fifo) o i is = absurd (cc)
 
 -- ---- all of an image
 
-module _ (m : Image) (lawful : IsLawfulTree m.tree) where
+module _ (g : Giving) (m : Image) (lawful : IsLawfulTree m.tree) where
   sound : AreSound [] (node_names [] m.tree)
   sound = sound_node [] [] m.tree (λ d. refl) tt lawful.lists
 
@@ -161,27 +166,27 @@ module _ (m : Image) (lawful : IsLawfulTree m.tree) where
   abbrev before : ℕ → List Name
   before k = root_of m ∷ take k (node_names [] m.tree)
 
-  within : (k : ℕ) → suc k < length (members_in m) → k < length (node_names [] m.tree)
+  within : (k : ℕ) → suc k < length (members_in g m) → k < length (node_names [] m.tree)
   unfolding members_in
-  within k h = omega (arith, h, length-members m (root_of m ∷ []) (node_names [] m.tree))
+  within k h = omega (arith, h, length-members g m (root_of m ∷ []) (node_names [] m.tree))
 
   member : (k : ℕ) → k < length (node_names [] m.tree)
-      → member_at (members_in m) (suc k) ≡ member_behind m (before k) (at k)
+      → member_at (members_in g m) (suc k) ≡ member_behind g m (before k) (at k)
   unfolding members_in
-  member k h = member_is m (root_of m ∷ []) (node_names [] m.tree) k (root_of m) h
+  member k h = member_is g m (root_of m ∷ []) (node_names [] m.tree) k (root_of m) h
 
-  path_is : (k : ℕ) → k < length (node_names [] m.tree) → path_at (members_in m) (suc k) ≡ (at k).path
+  path_is : (k : ℕ) → k < length (node_names [] m.tree) → path_at (members_in g m) (suc k) ≡ (at k).path
   path_is k h = ap (λ (x : Member). x.path) (member k h)
 
   kind_is : (k : ℕ) → k < length (node_names [] m.tree)
-      → kind_at (members_in m) (suc k) ≡ made_of (kind_of (at k).node) (first_behind (before k) (at k).node)
+      → kind_at (members_in g m) (suc k) ≡ made_of (kind_of (at k).node) (first_behind (before k) (at k).node)
   kind_is k h = ap (λ (x : Member). x.kind) (member k h)
 
-  root_path : path_at (members_in m) 0 ≡ 47 ∷ []
+  root_path : path_at (members_in g m) 0 ≡ 47 ∷ []
   unfolding members_in
   root_path = refl
 
-  plain_at : (k : ℕ) → k < length (node_names [] m.tree) → IsPlain (path_at (members_in m) (suc k))
+  plain_at : (k : ℕ) → k < length (node_names [] m.tree) → IsPlain (path_at (members_in g m) (suc k))
   plain_at k h = subst IsPlain (sym (path_is k h)) (sound_path [] (node_names [] m.tree) k (root_of m) sound h)
 
   leads_at : (k : ℕ) → k < length (node_names [] m.tree) → Leads (entries_of m.tree) [] (at k)
@@ -189,24 +194,25 @@ module _ (m : Image) (lawful : IsLawfulTree m.tree) where
 
   -- ---- the four properties
 
-  plain : (i : ℕ) → i < length (members_in m) → kind_at (members_in m) i ≢ Nothing → IsPlain (path_at (members_in m) i)
-  plain zero h some = absurd (some (root_nothing m))
+  plain : (i : ℕ) → i < length (members_in g m) → kind_at (members_in g m) i ≢ Nothing
+      → IsPlain (path_at (members_in g m) i)
+  plain zero h some = absurd (some (root_nothing g m))
   plain (suc k) h some = plain_at k (within k h)
 
-  distinct : (i j : ℕ) → i < length (members_in m) → j < length (members_in m)
-      → path_at (members_in m) i ≡ path_at (members_in m) j → i ≡ j
+  distinct : (i j : ℕ) → i < length (members_in g m) → j < length (members_in g m)
+      → path_at (members_in g m) i ≡ path_at (members_in g m) j → i ≡ j
   distinct zero zero a b is = refl
   distinct zero (suc k) a b is =
-      absurd (not_root (path_at (members_in m) (suc k)) (plain_at k (within k b)) (sym root_path ∙ is))
+      absurd (not_root (path_at (members_in g m) (suc k)) (plain_at k (within k b)) (sym root_path ∙ is))
   distinct (suc k) zero a b is =
-      absurd (not_root (path_at (members_in m) (suc k)) (plain_at k (within k a)) (sym root_path ∙ sym is))
+      absurd (not_root (path_at (members_in g m) (suc k)) (plain_at k (within k a)) (sym root_path ∙ sym is))
   distinct (suc k) (suc j) a b is =
       ap suc (differ_at (node_names [] m.tree) k j (root_of m) differ (within k a) (within j b)
       (sym (path_is k (within k a)) ∙ is ∙ path_is j (within j b)))
 
   no_way : (k j : ℕ) → k < length (node_names [] m.tree) → j < length (node_names [] m.tree)
-      → kind_at (members_in m) (suc k) ≡ Symlink
-      → LeadsThrough (path_at (members_in m) (suc k)) (path_at (members_in m) (suc j)) → ⊥
+      → kind_at (members_in g m) (suc k) ≡ Symlink
+      → LeadsThrough (path_at (members_in g m) (suc k)) (path_at (members_in g m) (suc j)) → ⊥
   no_way k j a b is through =
       let x = leads_at k a in
       let y = leads_at j b in
@@ -217,14 +223,14 @@ module _ (m : Image) (lawful : IsLawfulTree m.tree) where
       (link_entries (at k).node (first_behind (before k) (at k).node) more.0 (sym (kind_is k a) ∙ is))
       (ap (λ (ns : List (List ℕ)). node_under ns m.tree) (sym more.2) ∙ y.node)
 
-  leaves : (i j : ℕ) → i < length (members_in m) → j < length (members_in m) → kind_at (members_in m) i ≡ Symlink
-      → LeadsThrough (path_at (members_in m) i) (path_at (members_in m) j) → ⊥
-  leaves zero j a b is through = no_link (sym (root_nothing m) ∙ is)
+  leaves : (i j : ℕ) → i < length (members_in g m) → j < length (members_in g m) → kind_at (members_in g m) i ≡ Symlink
+      → LeadsThrough (path_at (members_in g m) i) (path_at (members_in g m) j) → ⊥
+  leaves zero j a b is through = no_link (sym (root_nothing g m) ∙ is)
     where
       no_link : Nothing ≡ Symlink → ⊥
       no_link h = cc
   leaves (suc k) zero a b is through =
-      not_through (path_at (members_in m) (suc k)) (plain_at k (within k a)) (through.0, sym root_path ∙ through.1)
+      not_through (path_at (members_in g m) (suc k)) (plain_at k (within k a)) (through.0, sym root_path ∙ through.1)
   leaves (suc k) (suc j) a b is through = no_way k j (within k a) (within j b) is through
 
   -- ---- further names
@@ -232,13 +238,13 @@ module _ (m : Image) (lawful : IsLawfulTree m.tree) where
   in_tree : (k : ℕ) → k < length (node_names [] m.tree) → IsIn (at k).node (nodes m.tree)
   in_tree k h = node_in m k h
 
-  many : length (members_in m) ≡ suc (length (node_names [] m.tree))
+  many : length (members_in g m) ≡ suc (length (node_names [] m.tree))
   unfolding members_in
-  many = ap suc (length-members m (root_of m ∷ []) (node_names [] m.tree))
+  many = ap suc (length-members g m (root_of m ∷ []) (node_names [] m.tree))
 
   first_is_file : (k f : ℕ) (o : Option ℕ) → k < length (node_names [] m.tree) → IsFurther (at k).node o f
       → place_of (ino_of (at k).node) (before k) ≡ Some f
-      → (f < length (members_in m)) × (kind_at (members_in m) f ≡ File)
+      → (f < length (members_in g m)) × (kind_at (members_in g m) f ≡ File)
   first_is_file k zero o h it place =
       let place_is = first_place (ino_of (at k).node) (before k) 0 (root_of m) place in
       let same = m.coherent m.tree (at k).node (root_in m) (in_tree k h) place_is.number_is in
@@ -269,9 +275,9 @@ module _ (m : Image) (lawful : IsLawfulTree m.tree) where
             ∙ ap file_by first,
       )
 
-  further : (i f : ℕ) → i < length (members_in m) → kind_at (members_in m) i ≡ Further f
-      → (f < length (members_in m)) × (kind_at (members_in m) f ≡ File)
-  further zero f a is = absurd (never f (sym (root_nothing m) ∙ is))
+  further : (i f : ℕ) → i < length (members_in g m) → kind_at (members_in g m) i ≡ Further f
+      → (f < length (members_in g m)) × (kind_at (members_in g m) f ≡ File)
+  further zero f a is = absurd (never f (sym (root_nothing g m) ∙ is))
     where
       never : (f : ℕ) → Nothing ≡ Further f → ⊥
       never f h = cc
@@ -282,8 +288,40 @@ module _ (m : Image) (lawful : IsLawfulTree m.tree) where
       first_is_file k f o h it
       (sym (ap (λ (b : Bool). cond b None (place_of (ino_of (at k).node) (before k))) it.no_directory) ∙ it.first_is)
 
-  are_members : AreMembers (members_in m)
+  are_members : AreMembers (members_in g m)
   are_members = record { plain = plain; distinct = distinct; leaves = leaves; further = further }
 
-pub extractable : (m : Image) → IsLawfulTree m.tree → AreMembers (members_in m)
-extractable m lawful = are_members m lawful
+  -- ---- all paths differ
+
+  path_of_name : (i : ℕ) (d : List ℕ) → i < length (members_in g m)
+      → path_at (members_in g m) i ≡ get_or (map (λ (n : Name). n.path) (names m.tree)) i d
+  unfolding names
+  path_of_name zero d h = root_path
+  path_of_name (suc k) d h = path_is k (within k h)
+      ∙ sym (get_or-map (λ (n : Name). n.path) (node_names [] m.tree) k (root_of m) d (within k h))
+
+  as_many : length (map (λ (n : Name). n.path) (names m.tree)) ≡ length (members_in g m)
+  unfolding names
+  as_many = ap suc (length-map (node_names [] m.tree) (λ (n : Name). n.path)) ∙ sym many
+
+  apart : (i j : ℕ) (d : List ℕ) → i < j → j < length (map (λ (n : Name). n.path) (names m.tree))
+      → bytes_eq (get_or (map (λ (n : Name). n.path) (names m.tree)) i d)
+      (get_or (map (λ (n : Name). n.path) (names m.tree)) j d) ≡ false
+  apart i j d less h =
+      let p : List ℕ = get_or (map (λ (n : Name). n.path) (names m.tree)) i d in
+      let q : List ℕ = get_or (map (λ (n : Name). n.path) (names m.tree)) j d in
+      let high : j < length (members_in g m) = omega (arith, h, as_many) in
+      let low : i < length (members_in g m) = omega (arith, less, high) in
+      false_from_ne_true (bytes_eq p q) (λ e.
+      let same : path_at (members_in g m) i ≡ path_at (members_in g m) j =
+      path_of_name i d low ∙ ((bytes_decides p q).0 e ∙ sym (path_of_name j d high)) in
+      absurd (omega (arith, less, distinct i j low high same)))
+
+  own_paths : IsDistinct bytes_eq (map (λ (n : Name). n.path) (names m.tree))
+  own_paths = IsDistinct-from_apart bytes_eq (map (λ (n : Name). n.path) (names m.tree)) apart
+
+pub paths_differ : (m : Image) → IsLawfulTree m.tree → IsDistinct bytes_eq (map (λ (n : Name). n.path) (names m.tree))
+paths_differ m lawful = own_paths (record { owners = true; masked = 0 }) m lawful
+
+pub extractable : (g : Giving) (m : Image) → IsLawfulTree m.tree → AreMembers (members_in g m)
+extractable g m lawful = are_members g m lawful

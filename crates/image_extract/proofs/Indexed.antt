@@ -10,19 +10,21 @@ use Rattle.rom_tree.specs.Names.{Name}
 use Rattle.rom_tree.specs.Tree.{ino_of}
 use Rattle.image_manifest.specs.Members.{place_of}
 use Rattle.image_extract.specs.Members.{member_behind, members_behind}
+use Rattle.image_extract.specs.declared.giving.Giving.{Giving}
 use Rattle.tree_extract.specs.Members.{member_at}
 
-pub length-members : (m : Image) (before ns : List Name) → length (members_behind m before ns) ≡ length ns
-length-members m before [] = refl
-length-members m before (n ∷ ns) = ap suc (length-members m (before ++ n ∷ []) ns)
+pub length-members : (g : Giving) (m : Image) (before ns : List Name)
+    → length (members_behind g m before ns) ≡ length ns
+length-members g m before [] = refl
+length-members g m before (n ∷ ns) = ap suc (length-members g m (before ++ n ∷ []) ns)
 
-pub member_is : (m : Image) (before ns : List Name) (i : ℕ) (e : Name) → i < length ns
-    → member_at (members_behind m before ns) i ≡ member_behind m (before ++ take i ns) (get_or ns i e)
-member_is m before [] i e h = absurd (omega (arith, h))
-member_is m before (n ∷ ns) zero e h = ap (λ (v : List Name). member_behind m v n) (sym (append-nil before))
-member_is m before (n ∷ ns) (suc i) e h =
-    member_is m (before ++ n ∷ []) ns i e (omega (arith, h))
-    ∙ ap (λ (v : List Name). member_behind m v (get_or ns i e)) (append_assoc before (n ∷ []) (take i ns))
+pub member_is : (g : Giving) (m : Image) (before ns : List Name) (i : ℕ) (e : Name) → i < length ns
+    → member_at (members_behind g m before ns) i ≡ member_behind g m (before ++ take i ns) (get_or ns i e)
+member_is g m before [] i e h = absurd (omega (arith, h))
+member_is g m before (n ∷ ns) zero e h = ap (λ (v : List Name). member_behind g m v n) (sym (append-nil before))
+member_is g m before (n ∷ ns) (suc i) e h =
+    member_is g m (before ++ n ∷ []) ns i e (omega (arith, h))
+    ∙ ap (λ (v : List Name). member_behind g m v (get_or ns i e)) (append_assoc before (n ∷ []) (take i ns))
 
 -- the place of the first name of a node
 pub record IsFirst (number : ℕ) (ns : List Name) (i : ℕ) (e : Name) : Type 0 where

@@ -15,10 +15,12 @@ use Rattle.image_manifest.specs.Members.{Known, AreMembers, all_behind, known_be
 use Rattle.image_manifest.proofs.Behind.{as_many}
 use Rattle.image_manifest.proofs.Lined.{names_nodes}
 use Rattle.tree_extract.specs.Extracted.{is_file}
-use Rattle.tree_extract.specs.Members.{Member as Made, kind_at, member_at, path_at}
+use Rattle.tree_extract.specs.Members.{Member as Made, kind_at, member_at, path_at, rights_at}
 use Rattle.tree_extract.specs.declared.tree.Kind.TheVariants.{Symlink, Nothing}
 use Rattle.image_extract.specs.Known.{IsKnown}
-use Rattle.image_extract.specs.Members.{made_of, member_behind, members_in, node_at, root_of}
+use Rattle.image_extract.specs.Rights.{given_rights}
+use Rattle.image_extract.specs.declared.giving.Giving.{Giving}
+use Rattle.image_extract.specs.Members.{made_of, member_behind, members_in, node_at, root_of, stat_at}
 use Rattle.image_extract.proofs.Indexed.{length-members, member_is}
 
 in_at : (ns : List Name) (i : ℕ) (e : Name) → i < length ns → IsIn (get_or ns i e).node (map (λ n. n.node) ns)
@@ -62,27 +64,28 @@ known_at before (n ∷ ns) (x ∷ ms) (suc i) d e is h =
     (omega (arith, h))
     ∙ ap (λ (v : List Name). known_behind v (get_or ns i e)) (append_assoc before (n ∷ []) (take i ns))
 
-pub many : (m : Image) (ms : List Member) → AreMembers m ms → length ms ≡ length (members_in m)
+pub many : (g : Giving) (m : Image) (ms : List Member) → AreMembers m ms → length ms ≡ length (members_in g m)
 unfolding members_of names members_in
-many m ms are =
-    as_many ms (names m.tree) are.known ∙ ap suc (sym (length-members m (root_of m ∷ []) (node_names [] m.tree)))
+many g m ms are =
+    as_many ms (names m.tree) are.known ∙ ap suc (sym (length-members g m (root_of m ∷ []) (node_names [] m.tree)))
 
-pub is_within : (m : Image) (ms : List Member) (i : ℕ) → AreMembers m ms → i < length (members_in m) → i < length ms
-is_within m ms i are h = subst (λ (n : ℕ). i < n) (sym (many m ms are)) h
+pub is_within : (g : Giving) (m : Image) (ms : List Member) (i : ℕ) → AreMembers m ms → i < length (members_in g m)
+    → i < length ms
+is_within g m ms i are h = subst (λ (n : ℕ). i < n) (sym (many g m ms are)) h
 
-pub known : (m : Image) (ms : List Member) (i : ℕ) (d : Member) → AreMembers m ms → i < length ms → i ≢ 0
-    → IsKnown m i (get_or ms i d)
+pub known : (g : Giving) (m : Image) (ms : List Member) (i : ℕ) (d : Member) → AreMembers m ms → i < length ms → i ≢ 0
+    → IsKnown g m i (get_or ms i d)
 unfolding members_of names members_in
-known m ms zero d are h some = absurd (some refl)
-known m ms (suc k) d are h some =
+known g m ms zero d are h some = absurd (some refl)
+known g m ms (suc k) d are h some =
     let ns : List Name = node_names [] m.tree in
     let n : Name = get_or ns k (root_of m) in
     let all : length ms ≡ suc (length ns) = as_many ms (names m.tree) are.known in
     let within : k < length ns = omega (arith, h, all) in
     let is : known_of (get_or ms (suc k) d) ≡ known_behind (root_of m ∷ take k ns) n =
     known_at [] (names m.tree) ms (suc k) d (root_of m) are.known h in
-    let at_is : member_at (members_in m) (suc k) ≡ member_behind m (root_of m ∷ take k ns) n =
-    member_is m (root_of m ∷ []) ns k (root_of m) within in
+    let at_is : member_at (members_in g m) (suc k) ≡ member_behind g m (root_of m ∷ take k ns) n =
+    member_is g m (root_of m ∷ []) ns k (root_of m) within in
     record {
       node = n.node;
       at = ap (λ (v : Known). image_node m v.number) is ∙ node_at-in m.tree n.node m.coherent (node_in m k within);
@@ -111,22 +114,22 @@ way_is (w ∷ ws) (n ∷ ns) (suc i) e is h =
     way_is ws ns i e (other_ways (path_by w) n.path (map path_by ws) (map (λ (k : Name). k.path) ns) is)
     (omega (arith, h))
 
-among_names : (m : Image) (ms : List Member) (i : ℕ) → AreMembers m ms → i < length (members_in m)
+among_names : (g : Giving) (m : Image) (ms : List Member) (i : ℕ) → AreMembers m ms → i < length (members_in g m)
     → i < length (names m.tree)
 unfolding members_of
-among_names m ms i are h =
-    subst (λ (n : ℕ). i < n) (as_many ms (names m.tree) are.known) (is_within m ms i are h)
+among_names g m ms i are h =
+    subst (λ (n : ℕ). i < n) (as_many ms (names m.tree) are.known) (is_within g m ms i are h)
 
-pub path_known : (m : Image) (ms : List Member) (i : ℕ) → AreMembers m ms → i < length (members_in m)
-    → manifest_path ms i ≡ path_at (members_in m) i
+pub path_known : (g : Giving) (m : Image) (ms : List Member) (i : ℕ) → AreMembers m ms → i < length (members_in g m)
+    → manifest_path ms i ≡ path_at (members_in g m) i
 unfolding names members_in
-path_known m ms zero are h =
-    way_is (ways_of ms) (names m.tree) 0 (root_of m) are.paths (among_names m ms 0 are h)
-path_known m ms (suc k) are h =
-    let among : suc k < length (names m.tree) = among_names m ms (suc k) are h in
+path_known g m ms zero are h =
+    way_is (ways_of ms) (names m.tree) 0 (root_of m) are.paths (among_names g m ms 0 are h)
+path_known g m ms (suc k) are h =
+    let among : suc k < length (names m.tree) = among_names g m ms (suc k) are h in
     way_is (ways_of ms) (names m.tree) (suc k) (root_of m) are.paths among
     ∙ sym (ap (λ (v : Made). v.path)
-    (member_is m (root_of m ∷ []) (node_names [] m.tree) k (root_of m) (omega (arith, among))))
+    (member_is g m (root_of m ∷ []) (node_names [] m.tree) k (root_of m) (omega (arith, among))))
 
 pub node_known : (m : Image) (ms : List Member) (i : ℕ) (d : Member) → AreMembers m ms → i < length ms
     → image_node m (get_or ms i d).node.0 ≡ Some (node_at m i)
@@ -138,22 +141,31 @@ node_known m ms i d are h =
     ∙ node_at-in m.tree (get_or ns i (root_of m)).node m.coherent
     (subst (IsIn (get_or ns i (root_of m)).node) (names_nodes m.tree) (in_at ns i (root_of m) among))
 
+-- a member gets the rights that are given by its node's attributes
+pub rights_known : (g : Giving) (m : Image) (i : ℕ) → i < length (members_in g m)
+    → rights_at (members_in g m) i ≡ given_rights g (stat_at m i)
+unfolding names members_in
+rights_known g m zero h = refl
+rights_known g m (suc k) h =
+    ap (λ (v : Made). v.rights) (member_is g m (root_of m ∷ []) (node_names [] m.tree) k (root_of m)
+    (omega (arith, h, length-members g m (root_of m ∷ []) (node_names [] m.tree))))
+
 -- ---- nothing is made of the root
 
-pub root_nothing : (m : Image) → kind_at (members_in m) 0 ≡ Nothing
+pub root_nothing : (g : Giving) (m : Image) → kind_at (members_in g m) 0 ≡ Nothing
 unfolding members_in
-root_nothing m = refl
+root_nothing g m = refl
 
-pub no_file : (m : Image) (i : ℕ) → is_file (kind_at (members_in m) i) ≡ true → i ≢ 0
-no_file m i file root =
-    never (ap is_file (sym (root_nothing m)) ∙ ap (λ (k : ℕ). is_file (kind_at (members_in m) k)) (sym root) ∙ file)
+pub no_file : (g : Giving) (m : Image) (i : ℕ) → is_file (kind_at (members_in g m) i) ≡ true → i ≢ 0
+no_file g m i file root =
+    never (ap is_file (sym (root_nothing g m)) ∙ ap (λ (k : ℕ). is_file (kind_at (members_in g m) k)) (sym root) ∙ file)
   where
     never : false ≡ true → ⊥
     never h = cc
 
-pub no_link : (m : Image) (i : ℕ) → kind_at (members_in m) i ≡ Symlink → i ≢ 0
-no_link m i link root =
-    never (sym (root_nothing m) ∙ ap (λ (k : ℕ). kind_at (members_in m) k) (sym root) ∙ link)
+pub no_link : (g : Giving) (m : Image) (i : ℕ) → kind_at (members_in g m) i ≡ Symlink → i ≢ 0
+no_link g m i link root =
+    never (sym (root_nothing g m) ∙ ap (λ (k : ℕ). kind_at (members_in g m) k) (sym root) ∙ link)
   where
     never : Nothing ≡ Symlink → ⊥
     never h = cc

@@ -1,5 +1,5 @@
--- `members_in`: the names of an image as the members of a tree that is extracted. `stat_at`: the
--- attributes of the node of a name. (This project's own.)
+-- `members_in`: the names of an image as the members of a tree that is extracted, with the rights
+-- that they get. `stat_at`: the attributes of the node of a name. (This project's own.)
 use Rattle.std.specs.Prelude.{ℕ, List, [], ◌∷◌, ◌++◌, get_or, Option, Some, None}
 use Rattle.rom_tree.specs.declared.types.Kind.{Kind as NodeKind}
 use Rattle.rom_tree.specs.declared.types.Kind.TheVariants as node
@@ -8,6 +8,8 @@ use Rattle.rom_tree.specs.Image.{Image, contents_of, stat_of}
 use Rattle.rom_tree.specs.Names.{Name, named, names, node_names}
 use Rattle.rom_tree.specs.Tree.{Node, kind_of}
 use Rattle.image_manifest.specs.Members.{first_behind}
+use Rattle.image_extract.specs.Rights.{given_rights}
+use Rattle.image_extract.specs.declared.giving.Giving.{Giving}
 use Rattle.tree_extract.specs.declared.tree.Kind.{Kind}
 use Rattle.tree_extract.specs.declared.tree.Kind.TheVariants.{Directory, File, Further, Symlink}
 use Rattle.tree_extract.specs.declared.tree.Kind.TheVariants.{Nothing}
@@ -29,17 +31,18 @@ made_of node.Socket first = Nothing
 made_of node.Fifo first = Nothing
 
 -- what is made of a name, behind others
-abbrev pub member_behind : Image → List Name → Name → Member
-member_behind m before n = record {
+abbrev pub member_behind : Giving → Image → List Name → Name → Member
+member_behind g m before n = record {
   path = n.path;
   kind = made_of (kind_of n.node) (first_behind before n.node);
   bytes = contents_of m.bytes n.node;
+  rights = given_rights g (stat_of n.node);
 }
 
-abbrev pub members_behind : Image → List Name → List Name → List Member
-members_behind m before [] = []
-members_behind m before (n ∷ ns) =
-    member_behind m before n ∷ members_behind m (before ++ n ∷ []) ns
+abbrev pub members_behind : Giving → Image → List Name → List Name → List Member
+members_behind g m before [] = []
+members_behind g m before (n ∷ ns) =
+    member_behind g m before n ∷ members_behind g m (before ++ n ∷ []) ns
 
 -- the root's name
 abbrev pub root_of : Image → Name
@@ -47,10 +50,15 @@ root_of m = named (47 ∷ []) [] m.tree
 
 -- The names of an image in preorder. The root's is the directory that is extracted into, which
 -- exists.
-unfoldable pub members_in : Image → List Member
-members_in m =
-    record { path = 47 ∷ []; kind = Nothing; bytes = [] }
-    ∷ members_behind m (root_of m ∷ []) (node_names [] m.tree)
+unfoldable pub members_in : Giving → Image → List Member
+members_in g m =
+    record {
+      path = 47 ∷ [];
+      kind = Nothing;
+      bytes = [];
+      rights = given_rights g (stat_of m.tree);
+    }
+    ∷ members_behind g m (root_of m ∷ []) (node_names [] m.tree)
 
 -- the node of the name at an index, and its attributes
 abbrev pub node_at : Image → ℕ → Node

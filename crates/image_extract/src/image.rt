@@ -3,18 +3,21 @@ ghost use Rattle.std.specs.Prelude.{◌≡◌, ◌≢◌, ◌<◌, Some, length}
 ghost use Rattle.image_manifest.specs.Members.{AreMembers};
 ghost use Rattle.image_extract.specs.Members.{made_of as made};
 
+use crate::giving::Giving;
 use arrayvec::ArrayVec;
 use image_info::cat;
 use image_manifest::{Member, PATH_MAX, path_of};
 use rom_fields::{ByteWrite, Failed};
 use rom_tree::{Kind as NodeKind, NodeId, Stat, TreeImage, link_text};
-use tree_extract::{Kind, Tree};
+use tree_extract::{Kind, Rights, Tree};
 
-/// An image and its members, which are those that `image_manifest::members` returns.
+/// An image, its members, which are those that `image_manifest::members` returns, and the rights
+/// that they get.
 #[derive(Drop)]
 pub struct ImageTree<'b, 'a, T: TreeImage<'a>> {
     pub image: &'b T,
     pub members: &'b [Member<'a>],
+    pub giving: Giving,
     ghost are: { AreMembers (T.image image.now) members.now },
 }
 
@@ -40,23 +43,34 @@ impl<'b, 'a, T: TreeImage<'a>> ImageTree<'b, 'a, T> {
     ghost use Rattle.image_extract.specs.Known.{IsKnown};
     ghost use Rattle.image_extract.specs.Members.{members_in, node_at, stat_at};
     ghost use Rattle.rom_tree.specs.Image.{image_node};
-    ghost use Rattle.tree_extract.specs.Members.{path_at};
+    ghost use Rattle.tree_extract.specs.Members.{path_at, rights_at};
 
     /// Replaces what the buffer has by the path of the member at an index. The root's is a slash.
     pub fn path(&self, index: usize, path: &mut ArrayVec<u8, PATH_MAX>)
-        requires { index < length (members_in (T.image self.now.image.now)) }
-        ensures { path.new.items ≡ path_at (members_in (T.image self.now.image.now)) index }
+        requires { index < length (members_in self.now.giving (T.image self.now.image.now)) }
+        ensures { path.new.items
+            ≡ path_at (members_in self.now.giving (T.image self.now.image.now)) index }
     {
         path_of(self.members, index, path);
     }
 
     /// Returns the attributes of the node of the member at an index.
     pub fn stat(&self, index: usize) -> Stat
-        requires { index < length (members_in (T.image self.now.image.now)) }
+        requires { index < length (members_in self.now.giving (T.image self.now.image.now)) }
         ensures { result ≡ stat_at (T.image self.now.image.now) index }
     {
         let node = self.node(index);
         self.image.stat(node)
+    }
+
+    /// Returns the rights that the member at an index gets.
+    pub fn rights(&self, index: usize) -> Rights
+        requires { index < length (members_in self.now.giving (T.image self.now.image.now)) }
+        ensures { result
+            ≡ rights_at (members_in self.now.giving (T.image self.now.image.now)) index }
+    {
+        let stat = self.stat(index);
+        self.giving.rights(stat)
     }
 
     /// Returns the node of the member at an index.
@@ -72,7 +86,7 @@ impl<'b, 'a, T: TreeImage<'a>> ImageTree<'b, 'a, T> {
     fn member(&self, index: usize) -> Member<'a>
         requires within { index < length self.now.members.now }
         requires inner { index ≢ 0 }
-        ensures { IsKnown (T.image self.now.image.now) index result }
+        ensures { IsKnown self.now.giving (T.image self.now.image.now) index result }
     {
         self.members[index]
     }
@@ -81,7 +95,7 @@ impl<'b, 'a, T: TreeImage<'a>> ImageTree<'b, 'a, T> {
 impl<'b, 'a, T: TreeImage<'a>> Tree for ImageTree<'b, 'a, T> {
     ghost use Rattle.image_extract.specs.Members.{members_in};
 
-    ghost members = { λ s. members_in (T.image s.image.now) };
+    ghost members = { λ s. members_in s.giving (T.image s.image.now) };
 
     fn len(&self) -> usize {
         self.members.len()

@@ -1,10 +1,21 @@
-//! The law on the names of an image.
+//! Laws on the names of an image.
+ghost use Rattle.std.specs.Prelude.{map};
+ghost use Rattle.std.specs.List.{IsDistinct};
+ghost use Rattle.std.specs.Str.{bytes_eq};
 ghost use Rattle.image_extract.specs.Members.{members_in};
+ghost use Rattle.image_extract.specs.declared.giving.Giving.{Giving};
 ghost use Rattle.image_manifest.specs.Describable.{IsLawfulTree};
 ghost use Rattle.rom_tree.specs.Image.{Image};
+ghost use Rattle.rom_tree.specs.Names.{Name, names};
 ghost use Rattle.tree_extract.specs.Members.{AreMembers};
 
 /// Shows that the names of an image with a lawful tree can be extracted.
 pub fn can_be_extracted()
-    ensures { (m : Image) → IsLawfulTree m.tree → AreMembers (members_in m) }
+    ensures { (g : Giving) (m : Image) → IsLawfulTree m.tree → AreMembers (members_in g m) }
+{}
+
+/// Shows that no two names of an image with a lawful tree have one path.
+pub fn paths_differ()
+    ensures { (m : Image) → IsLawfulTree m.tree
+        → IsDistinct bytes_eq (map (λ (n : Name). n.path) (names m.tree)) }
 {}

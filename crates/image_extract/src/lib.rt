@@ -6,7 +6,9 @@
 //! none leads through a symbolic link. Each image that a check accepts has a lawful tree.
 #![tactic(auto)]
 
+mod giving;
 mod image;
 pub mod laws;
 
+pub use giving::{Giving, LENDING};
 pub use image::ImageTree;

@@ -1,12 +1,10 @@
 //! Bytes that are read at any position.
-ghost use Rattle.std.specs.Prelude.{◌≡◌, ◌≢◌, ℕ, List, Option, None, Some, IfErr};
-ghost use Rattle.std.specs.IoError.{error_kind};
+ghost use Rattle.std.specs.Prelude.{ℕ, List, Option, None, Some};
 ghost use Rattle.std.specs.Io.{ReadsAtMost};
 ghost use Rattle.program_streams.specs.Streams.{ReadsFrom};
 
 use crate::ahead::copy_front;
-use crate::signals::{gave_up, is_interrupted};
-use std::io::{self, ErrorKind};
+use std::io;
 
 /// A thing that can be read at any position, such as a file.
 pub trait ReadAt {
@@ -36,27 +34,4 @@ impl ReadAt for &[u8] {
         };
         Ok(copy_front(&all[from..], buf))
     }
-}
-
-/// Reads a part from a position on, and repeats the call if a signal interrupted it.
-///
-/// # Errors
-///
-/// Those of the thing that is read, and `TimedOut` after 2^64 - 1 interrupted calls.
-pub fn read_at_again<F: ReadAt>(file: &F, at: u64, buf: &mut [u8]) -> io::Result<usize>
-    ensures bound { ReadsAtMost result buf.new }
-    ensures bytes { ReadsFrom (F.stored file.now) at result buf.new }
-    ensures retried { IfErr result (λ e. error_kind e ≢ ErrorKind.Interrupted) }
-{
-    for _ in 0..u64::MAX {
-        match file.read_at(buf, at) {
-            Ok(n) => return Ok(n),
-            Err(e) => {
-                if !is_interrupted(&e) {
-                    return Err(e);
-                }
-            }
-        }
-    }
-    Err(gave_up())
 }

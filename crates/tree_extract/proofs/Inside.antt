@@ -13,11 +13,11 @@ misses_link : (known : Option (List ℕ)) (ms : List Member) (c : Call) (j : ℕ
     → j < length ms → MissesLink c (path_at ms j)
 misses_link known ms (MakeDirectory p) j members of lt = tt
 misses_link known ms (MakeFile p) j members of lt = tt
-misses_link known ms (FinishFile p contents) j members of lt = tt
+misses_link known ms (FinishFile p contents rights) j members of lt = tt
 misses_link known ms (MakeName p first) j members of lt = tt
-misses_link known ms (MakeSymlink p text) j members of lt =
+misses_link known ms (MakeSymlink p text owner) j members of lt =
     λ leads. members.leaves of.0 j of.1 lt of.2.1 (subst (λ q. LeadsThrough q (path_at ms j)) of.2.0 leads)
-misses_link known ms (SetRights p) j members of lt = tt
+misses_link known ms (SetRights p rights) j members of lt = tt
 
 pub misses : (known : Option (List ℕ)) (ms : List Member) (log : List Event) (j : ℕ) → AreMembers ms
     → AreOf known ms log → j < length ms → MissesLinks log (path_at ms j)
@@ -43,9 +43,9 @@ makes_other known ms i j (MakeDirectory p) members li lj other makes =
     λ is. other (members.distinct i j li lj (sym makes.0 ∙ is))
 makes_other known ms i j (MakeFile p) members li lj other makes =
     λ is. other (members.distinct i j li lj (sym makes.0 ∙ is))
-makes_other known ms i j (FinishFile p contents) members li lj other makes = tt
+makes_other known ms i j (FinishFile p contents rights) members li lj other makes = tt
 makes_other known ms i j (MakeName p first) members li lj other makes =
     λ is. other (members.distinct i j li lj (sym makes.0 ∙ is))
-makes_other known ms i j (MakeSymlink p text) members li lj other makes =
+makes_other known ms i j (MakeSymlink p text owner) members li lj other makes =
     λ is. other (members.distinct i j li lj (sym makes.0 ∙ is))
-makes_other known ms i j (SetRights p) members li lj other makes = tt
+makes_other known ms i j (SetRights p rights) members li lj other makes = tt

@@ -2,5 +2,5 @@ mod Noted
 mod Inside
 mod Steps
 mod Making
-mod Rights
+mod DirectoryRights
 mod Refusals

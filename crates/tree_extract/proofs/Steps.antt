@@ -10,6 +10,7 @@ use Rattle.tree_extract.specs.Extracted.{Makes, IsMade, IsMadeAs, IsWhole, IsCop
 use Rattle.tree_extract.specs.Passes.{IsRun, IsAt, IsPast, rank}
 use Rattle.tree_extract.specs.declared.tree.Kind.{Kind}
 use Rattle.tree_extract.specs.declared.tree.Kind.TheVariants as kind
+use Rattle.tree_extract.specs.declared.tree.Rights.{Rights}
 use Rattle.tree_extract.proofs.Inside.{makes_other}
 
 -- ---- one more event
@@ -45,20 +46,20 @@ name_run known ms (Err e) old new i c run safe lt makes (inr is) = subst (IsRun 
 
 -- ---- what stays made
 
-whole_more : (known : Option (List ℕ)) (log : List Event) (e : Event) (p bytes : List ℕ) → IsWhole known log p bytes
-    → IsWhole known (e ∷ log) p bytes
-whole_more known log e p bytes whole = (whole.0, whole.1, inr whole.2)
+whole_more : (known : Option (List ℕ)) (log : List Event) (e : Event) (p bytes : List ℕ) (rights : Rights)
+    → IsWhole known log p bytes rights → IsWhole known (e ∷ log) p bytes rights
+whole_more known log e p bytes rights whole = (whole.0, whole.1, inr whole.2)
 
-copied_more : (known : Option (List ℕ)) (log : List Event) (e : Event) (p first bytes : List ℕ)
-    → IsCopied known log p first bytes → IsCopied known (e ∷ log) p first bytes
-copied_more known log e p first bytes copied = (copied.0, copied.1, inr copied.2)
+copied_more : (known : Option (List ℕ)) (log : List Event) (e : Event) (p first bytes : List ℕ) (rights : Rights)
+    → IsCopied known log p first bytes rights → IsCopied known (e ∷ log) p first bytes rights
+copied_more known log e p first bytes rights copied = (copied.0, copied.1, inr copied.2)
 
 made_as_more : (known : Option (List ℕ)) (ms : List Member) (i : ℕ) (log : List Event) (e : Event) (k : Kind)
     → IsMadeAs known ms i log k → IsMadeAs known ms i (e ∷ log) k
 made_as_more known ms i log e kind.Directory made = inr made
-made_as_more known ms i log e kind.File made = whole_more known log e _ _ made
+made_as_more known ms i log e kind.File made = whole_more known log e _ _ _ made
 made_as_more known ms i log e (kind.Further first) (inl made) = inl (inr made)
-made_as_more known ms i log e (kind.Further first) (inr made) = inr (copied_more known log e _ _ _ made)
+made_as_more known ms i log e (kind.Further first) (inr made) = inr (copied_more known log e _ _ _ _ made)
 made_as_more known ms i log e kind.Symlink made = inr made
 made_as_more known ms i log e kind.Nothing made = tt
 

@@ -24,10 +24,10 @@ first_of Nothing = 0
 abbrev pub call_for : List Member → Asked → ℕ → Call
 call_for ms asked.MakeDirectory i = MakeDirectory (path_at ms i)
 call_for ms asked.MakeFile i = MakeFile (path_at ms i)
-call_for ms asked.FinishFile i = FinishFile (path_at ms i) None
+call_for ms (asked.FinishFile rights) i = FinishFile (path_at ms i) None rights
 call_for ms asked.MakeName i = MakeName (path_at ms i) (path_at ms (first_of (kind_at ms i)))
-call_for ms asked.MakeSymlink i = MakeSymlink (path_at ms i) (bytes_at ms i)
-call_for ms asked.SetRights i = SetRights (path_at ms i)
+call_for ms (asked.MakeSymlink owner) i = MakeSymlink (path_at ms i) (bytes_at ms i) owner
+call_for ms (asked.SetRights rights) i = SetRights (path_at ms i) rights
 
 abbrev pub event : List Member → Asked → ℕ → Bool → Event
 event ms asked i is_done = cond is_done (Did (call_for ms asked i)) (Refused (call_for ms asked i))

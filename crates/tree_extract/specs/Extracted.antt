@@ -1,15 +1,17 @@
--- `IsExtracted`: the members were made, each whole and with its rights set last. `AreOf`: each call
--- that was asked makes one of the members. (This project's own.)
+-- `IsExtracted`: the members were made, each whole and with its rights, those of directories last.
+-- `AreOf`: each call that was asked makes one of the members. (This project's own.)
 use Rattle.std.specs.Prelude.{◌≡◌, ◌⊎◌, ◌<◌, ℕ, Bool, true, false, cond, List, [], ◌∷◌, Option}
 use Rattle.std.specs.Prelude.{length}
 use Rattle.std.specs.Io.KnownBytes.{Appends}
 use Rattle.tree_extract.specs.Log.{Call, MakeDirectory, MakeFile, FinishFile, MakeName}
 use Rattle.tree_extract.specs.Log.{MakeSymlink, SetRights, Event, Did, Refused, call_of, Has}
 use Rattle.tree_extract.specs.Log.{HasAfter}
-use Rattle.tree_extract.specs.Members.{Member, kind_at, path_at, bytes_at}
+use Rattle.tree_extract.specs.Members.{Member, kind_at, path_at, bytes_at, rights_at}
+use Rattle.tree_extract.specs.Members.{owner_at}
 use Rattle.tree_extract.specs.declared.tree.Kind.{Kind}
 use Rattle.tree_extract.specs.declared.tree.Kind.TheVariants.{Directory, File, Further, Symlink}
 use Rattle.tree_extract.specs.declared.tree.Kind.TheVariants.{Nothing}
+use Rattle.tree_extract.specs.declared.tree.Rights.{Rights}
 
 -- a file of its own is made for this kind, or can be
 abbrev pub is_file : Kind → Bool
@@ -23,13 +25,16 @@ is_file Nothing = false
 abbrev pub Makes : Option (List ℕ) → List Member → ℕ → Call → Type 0
 Makes fresh ms i (MakeDirectory p) = (p ≡ path_at ms i) × (kind_at ms i ≡ Directory)
 Makes fresh ms i (MakeFile p) = (p ≡ path_at ms i) × (is_file (kind_at ms i) ≡ true)
-Makes fresh ms i (FinishFile p contents) =
-    (p ≡ path_at ms i) × (is_file (kind_at ms i) ≡ true) × Appends fresh contents (bytes_at ms i)
+Makes fresh ms i (FinishFile p contents rights) =
+    (p ≡ path_at ms i) × (is_file (kind_at ms i) ≡ true) × (rights ≡ rights_at ms i)
+    × Appends fresh contents (bytes_at ms i)
 Makes fresh ms i (MakeName p first) =
     (p ≡ path_at ms i) × (k : ℕ) × (kind_at ms i ≡ Further k) × (first ≡ path_at ms k)
-Makes fresh ms i (MakeSymlink p text) =
+Makes fresh ms i (MakeSymlink p text owner) =
     (p ≡ path_at ms i) × (kind_at ms i ≡ Symlink) × (text ≡ bytes_at ms i)
-Makes fresh ms i (SetRights p) = (p ≡ path_at ms i) × (kind_at ms i ≡ Directory)
+    × (owner ≡ owner_at ms i)
+Makes fresh ms i (SetRights p rights) =
+    (p ≡ path_at ms i) × (kind_at ms i ≡ Directory) × (rights ≡ rights_at ms i)
 
 -- a call makes one of the members
 abbrev pub IsOf : Option (List ℕ) → List Member → Call → Type 0
@@ -40,25 +45,27 @@ abbrev pub AreOf : Option (List ℕ) → List Member → List Event → Type 0
 AreOf fresh ms [] = Unit {0}
 AreOf fresh ms (e ∷ log) = IsOf fresh ms (call_of e) × AreOf fresh ms log
 
--- a file was made and finished with these bytes, if they are known
-abbrev pub IsWhole : Option (List ℕ) → List Event → List ℕ → List ℕ → Type 0
-IsWhole fresh log p bytes =
+-- a file was made and finished with these rights, and with these bytes, if they are known
+abbrev pub IsWhole : Option (List ℕ) → List Event → List ℕ → List ℕ → Rights → Type 0
+IsWhole fresh log p bytes rights =
     (contents : Option (List ℕ)) × Appends fresh contents bytes
-    × Has log (Did (FinishFile p contents))
+    × Has log (Did (FinishFile p contents rights))
 
 -- such a file was made after a further name at this path was refused
-abbrev pub IsCopied : Option (List ℕ) → List Event → List ℕ → List ℕ → List ℕ → Type 0
-IsCopied fresh log p first bytes =
+abbrev pub IsCopied : Option (List ℕ) → List Event → List ℕ → List ℕ → List ℕ → Rights → Type 0
+IsCopied fresh log p first bytes rights =
     (contents : Option (List ℕ)) × Appends fresh contents bytes
-    × HasAfter log (Did (FinishFile p contents)) (Refused (MakeName p first))
+    × HasAfter log (Did (FinishFile p contents rights)) (Refused (MakeName p first))
 
 abbrev pub IsMadeAs : Option (List ℕ) → List Member → ℕ → List Event → Kind → Type 0
 IsMadeAs fresh ms i log Directory = Has log (Did (MakeDirectory (path_at ms i)))
-IsMadeAs fresh ms i log File = IsWhole fresh log (path_at ms i) (bytes_at ms i)
+IsMadeAs fresh ms i log File =
+    IsWhole fresh log (path_at ms i) (bytes_at ms i) (rights_at ms i)
 IsMadeAs fresh ms i log (Further first) =
     Has log (Did (MakeName (path_at ms i) (path_at ms first)))
-    ⊎ IsCopied fresh log (path_at ms i) (path_at ms first) (bytes_at ms i)
-IsMadeAs fresh ms i log Symlink = Has log (Did (MakeSymlink (path_at ms i) (bytes_at ms i)))
+    ⊎ IsCopied fresh log (path_at ms i) (path_at ms first) (bytes_at ms i) (rights_at ms i)
+IsMadeAs fresh ms i log Symlink =
+    Has log (Did (MakeSymlink (path_at ms i) (bytes_at ms i) (owner_at ms i)))
 IsMadeAs fresh ms i log Nothing = Unit {0}
 
 -- The member at index i was made. A further name is one of the same file. Only if the directory
@@ -69,10 +76,10 @@ IsMade fresh ms i log = IsMadeAs fresh ms i log (kind_at ms i)
 abbrev pub sets_rights : Call → Bool
 sets_rights (MakeDirectory p) = false
 sets_rights (MakeFile p) = false
-sets_rights (FinishFile p contents) = false
+sets_rights (FinishFile p contents rights) = false
 sets_rights (MakeName p first) = false
-sets_rights (MakeSymlink p text) = false
-sets_rights (SetRights p) = true
+sets_rights (MakeSymlink p text owner) = false
+sets_rights (SetRights p rights) = true
 
 -- no rights of a directory were set
 abbrev pub HasNoRights : List Event → Type 0
@@ -89,5 +96,5 @@ pub record IsExtracted (fresh : Option (List ℕ)) (ms : List Member) (log : Lis
     : Type 0 where
   pub made : (i : ℕ) → i < length ms → IsMade fresh ms i log
   pub rights : (i : ℕ) → i < length ms → kind_at ms i ≡ Directory
-      → Has log (Did (SetRights (path_at ms i)))
+      → Has log (Did (SetRights (path_at ms i) (rights_at ms i)))
   pub last : AreRightsLast log

@@ -2,21 +2,23 @@
 -- has the events, newest first. (This project's own.)
 use Rattle.std.specs.Prelude.{◌≡◌, ◌⊎◌, ℕ, Bool, true, false, List, [], ◌∷◌, Option}
 use Rattle.std.specs.Prelude.{Result, Ok, Err}
+use Rattle.tree_extract.specs.declared.tree.Owner.{Owner}
+use Rattle.tree_extract.specs.declared.tree.Rights.{Rights}
 
 -- what can be asked of a directory, by paths below it
 pub data Call : Type 0 where
   MakeDirectory : List ℕ → Call
   -- to make an empty file
   MakeFile : List ℕ → Call
-  -- to set the rights of the file that was made last, and to close it, with this contents, if it is
-  -- known
-  FinishFile : List ℕ → Option (List ℕ) → Call
+  -- to set these rights of the file that was made last, and to close it, with this contents, if it
+  -- is known
+  FinishFile : List ℕ → Option (List ℕ) → Rights → Call
   -- to make a further name of the file at the second path
   MakeName : List ℕ → List ℕ → Call
-  -- to make a symbolic link of this text
-  MakeSymlink : List ℕ → List ℕ → Call
-  -- to set the rights of a directory
-  SetRights : List ℕ → Call
+  -- to make a symbolic link of this text, with this owner
+  MakeSymlink : List ℕ → List ℕ → Option Owner → Call
+  -- to set these rights of a directory
+  SetRights : List ℕ → Rights → Call
 
 pub data Event : Type 0 where
   Did : Call → Event

@@ -3,7 +3,7 @@ use Rattle.std.specs.Prelude.{◌≡◌, ◌⊎◌, ◌<◌, ◌≤◌, ℕ, Lis
 use Rattle.std.specs.Io.KnownBytes.{Appends}
 use Rattle.tree_extract.specs.Log.{MakeFile, FinishFile, MakeName, SetRights, Event, Did, Refused}
 use Rattle.tree_extract.specs.Log.{Has}
-use Rattle.tree_extract.specs.Members.{Member, kind_at, path_at, bytes_at}
+use Rattle.tree_extract.specs.Members.{Member, kind_at, path_at, bytes_at, rights_at}
 use Rattle.tree_extract.specs.Safe.{AreSafe, IsNew}
 use Rattle.tree_extract.specs.Extracted.{AreOf, IsMade, HasNoRights, AreRightsLast}
 use Rattle.tree_extract.specs.declared.tree.Kind.{Kind}
@@ -45,7 +45,8 @@ pub record IsAt (known : Option (List ℕ)) (ms : List Member) (f k : ℕ) (log 
 abbrev pub IsFileMade : Option (List ℕ) → List Member → ℕ → List Event → List Event → Type 0
 IsFileMade known ms i old new =
     (contents : Option (List ℕ)) × Appends known contents (bytes_at ms i)
-    × (new ≡ Did (FinishFile (path_at ms i) contents) ∷ Did (MakeFile (path_at ms i)) ∷ old)
+    × (new ≡ Did (FinishFile (path_at ms i) contents (rights_at ms i))
+    ∷ Did (MakeFile (path_at ms i)) ∷ old)
 
 -- a further name was made, or a file of its own
 abbrev pub IsNameMade : Option (List ℕ) → List Member → ℕ → ℕ → List Event → List Event → Type 0
@@ -59,5 +60,5 @@ pub record IsSet (known : Option (List ℕ)) (ms : List Member) (k : ℕ) (log :
   pub run : IsRun known ms log
   pub made : (j : ℕ) → j < length ms → IsMade known ms j log
   pub set : (j : ℕ) → k ≤ j → j < length ms → kind_at ms j ≡ kind.Directory
-      → Has log (Did (SetRights (path_at ms j)))
+      → Has log (Did (SetRights (path_at ms j) (rights_at ms j)))
   pub last : AreRightsLast log

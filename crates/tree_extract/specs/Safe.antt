@@ -8,7 +8,7 @@ use Rattle.tree_extract.specs.Log.{MakeSymlink, SetRights, Event, Did, Refused, 
 
 -- a path does not lead through what is made by this call, if that is a link
 abbrev pub MissesLink : Call → List ℕ → Type 0
-MissesLink (MakeSymlink p text) q = LeadsThrough p q → ⊥
+MissesLink (MakeSymlink p text owner) q = LeadsThrough p q → ⊥
 MissesLink call q = Unit {0}
 
 -- a path leads through no link that was made, or may have been
@@ -20,10 +20,10 @@ MissesLinks (e ∷ log) q = MissesLink (call_of e) q × MissesLinks log q
 abbrev pub MakesOther : Call → List ℕ → Type 0
 MakesOther (MakeDirectory p) q = p ≢ q
 MakesOther (MakeFile p) q = p ≢ q
-MakesOther (FinishFile p contents) q = Unit {0}
+MakesOther (FinishFile p contents rights) q = Unit {0}
 MakesOther (MakeName p first) q = p ≢ q
-MakesOther (MakeSymlink p text) q = p ≢ q
-MakesOther (SetRights p) q = Unit {0}
+MakesOther (MakeSymlink p text owner) q = p ≢ q
+MakesOther (SetRights p rights) q = Unit {0}
 
 -- nothing was made at a path
 abbrev pub IsNew : List Event → List ℕ → Type 0
@@ -46,10 +46,11 @@ pub record IsFree (log : List Event) (path : List ℕ) : Type 0 where
 abbrev pub IsSafe : List Event → Call → Type 0
 IsSafe log (MakeDirectory p) = IsFree log p
 IsSafe log (MakeFile p) = IsFree log p
-IsSafe log (FinishFile p contents) = (older : List Event) × (log ≡ Did (MakeFile p) ∷ older)
+IsSafe log (FinishFile p contents rights) =
+    (older : List Event) × (log ≡ Did (MakeFile p) ∷ older)
 IsSafe log (MakeName p first) = IsFree log p × IsInside log first
-IsSafe log (MakeSymlink p text) = IsFree log p
-IsSafe log (SetRights p) = IsInside log p × Has log (Did (MakeDirectory p))
+IsSafe log (MakeSymlink p text owner) = IsFree log p
+IsSafe log (SetRights p rights) = IsInside log p × Has log (Did (MakeDirectory p))
 
 -- each call was safe when it was asked
 abbrev pub AreSafe : List Event → Type 0

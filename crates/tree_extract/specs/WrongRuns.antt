@@ -1,29 +1,32 @@
 -- Runs that change something outside the directory, that make something that is not a member, or
 -- that leave something out. The newest event is first. (This project's own.)
 use Rattle.std.specs.Prelude.{◌≢◌, ◌<◌, ℕ, List, ◌∷◌, ◌++◌, Option, length}
-use Rattle.tree_extract.specs.Log.{MakeFile, MakeSymlink, SetRights}
+use Rattle.tree_extract.specs.Log.{MakeFile, MakeSymlink, SetRights, FinishFile}
 use Rattle.tree_extract.specs.Log.{Event, Did}
-use Rattle.tree_extract.specs.Members.{Member, kind_at, path_at}
+use Rattle.tree_extract.specs.Members.{Member, AreMembers, kind_at, path_at, rights_at}
 use Rattle.tree_extract.specs.Safe.{AreSafe, IsNew}
 use Rattle.tree_extract.specs.Extracted.{AreOf, IsExtracted}
 use Rattle.tree_extract.specs.declared.tree.Kind.TheVariants.{Nothing}
+use Rattle.tree_extract.specs.declared.tree.Owner.{Owner}
+use Rattle.tree_extract.specs.declared.tree.Rights.{Rights}
 
 -- a file was made through a link that was made before
-abbrev pub link_followed : List ℕ → List ℕ → List ℕ → List Event → List Event
-link_followed link text rest log =
-    Did (MakeFile (link ++ 47 ∷ rest)) ∷ Did (MakeSymlink link text) ∷ log
+abbrev pub link_followed : List ℕ → List ℕ → Option Owner → List ℕ → List Event → List Event
+link_followed link text owner rest log =
+    Did (MakeFile (link ++ 47 ∷ rest)) ∷ Did (MakeSymlink link text owner) ∷ log
 
 -- a file was made by the path `/../rest`
 abbrev pub led_outside : List ℕ → List Event → List Event
 led_outside rest log = Did (MakeFile (47 ∷ 46 ∷ 46 ∷ 47 ∷ rest)) ∷ log
 
 -- a link was replaced by a file
-abbrev pub made_twice : List ℕ → List ℕ → List Event → List Event
-made_twice path text log = Did (MakeFile path) ∷ Did (MakeSymlink path text) ∷ log
+abbrev pub made_twice : List ℕ → List ℕ → Option Owner → List Event → List Event
+made_twice path text owner log = Did (MakeFile path) ∷ Did (MakeSymlink path text owner) ∷ log
 
 -- the rights of a directory were set, and then a file was made
-abbrev pub rights_first : List ℕ → List ℕ → List Event → List Event
-rights_first path directory log = Did (MakeFile path) ∷ Did (SetRights directory) ∷ log
+abbrev pub rights_first : List ℕ → List ℕ → Rights → List Event → List Event
+rights_first path directory rights log =
+    Did (MakeFile path) ∷ Did (SetRights directory rights) ∷ log
 
 -- the last call of this run is not safe
 abbrev pub RefusesCall : (List Event → List Event) → Type 0
@@ -43,4 +46,11 @@ RefusesForeign = (known : Option (List ℕ)) (ms : List Member) (path : List ℕ
 
 abbrev pub RefusesRightsFirst : Type 0
 RefusesRightsFirst = (known : Option (List ℕ)) (ms : List Member) (path directory : List ℕ)
-    (log : List Event) → IsExtracted known ms (rights_first path directory log) → ⊥
+    (rights : Rights) (log : List Event)
+    → IsExtracted known ms (rights_first path directory rights log) → ⊥
+
+-- a file or a directory was made with rights that are not those of the member
+abbrev pub RefusesOtherRights : Type 0
+RefusesOtherRights = (known contents : Option (List ℕ)) (ms : List Member) (i : ℕ) (rights : Rights)
+    (log : List Event) → AreMembers ms → i < length ms → rights ≢ rights_at ms i
+    → AreOf known ms (Did (FinishFile (path_at ms i) contents rights) ∷ log) → ⊥

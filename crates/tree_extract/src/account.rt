@@ -3,17 +3,18 @@ ghost use Rattle.std.specs.Prelude.{◌≡◌, ◌<◌, List, [], ◌∷◌, OnO
 ghost use Rattle.tree_extract.specs.Log.{Logs};
 ghost use Rattle.tree_extract.specs.Members.{Member};
 
+use crate::tree::{Owner, Rights};
 use std::alloc::{AllocError, Global};
 
-/// What was asked.
+/// What was asked, with the rights that were to be given.
 #[derive(Clone, Copy, Debug, PartialEq, Eq)]
 pub enum Asked {
     MakeDirectory,
     MakeFile,
-    FinishFile,
+    FinishFile(Rights),
     MakeName,
-    MakeSymlink,
-    SetRights,
+    MakeSymlink(Option<Owner>),
+    SetRights(Rights),
 }
 
 /// What was asked of the member at an index, and whether it was done.

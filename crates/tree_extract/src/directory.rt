@@ -3,6 +3,7 @@ ghost use Rattle.std.specs.Prelude.{◌≡◌, ◌<◌, ℕ, List, Option, lengt
 ghost use Rattle.tree_extract.specs.Log.{Event, MakeDirectory, MakeFile, FinishFile, MakeName};
 ghost use Rattle.tree_extract.specs.Log.{MakeSymlink, SetRights, Logs, LogsName};
 ghost use Rattle.tree_extract.specs.Members.{Member, kind_at, path_at, bytes_at};
+ghost use Rattle.tree_extract.specs.Members.{rights_at, owner_at};
 ghost use Rattle.tree_extract.specs.Safe.{IsSafe};
 ghost use Rattle.tree_extract.specs.declared.tree.Kind.TheVariants.{Further};
 
@@ -46,14 +47,15 @@ pub trait Directory {
             (log self.old) (log self.new) }
         ensures empty { IfOk result (λ file. (Self.File.output file).contents ≡ fresh) };
 
-    /// Sets the rights of the file that was made last, and closes it.
+    /// Sets the rights of the file that was made last to those of the member, and closes it.
     fn finish_file(&mut self, index: usize, file: Self::File) -> Result<(), Self::Error>
         requires within { index < length (members self.old) }
         requires safe { IsSafe (log self.old) (FinishFile (path_at (members self.old) index)
-            (Self.File.output file).contents) }
+            (Self.File.output file).contents (rights_at (members self.old) index)) }
         ensures same { members self.new ≡ members self.old }
         ensures logged { Logs (FinishFile (path_at (members self.old) index)
-            (Self.File.output file).contents) result (log self.old) (log self.new) };
+            (Self.File.output file).contents (rights_at (members self.old) index)) result
+            (log self.old) (log self.new) };
 
     /// Returns why not all was written to a file: the file's own reason, if it has one.
     fn unwritten(&self, file: Self::File) -> Self::Error
@@ -71,21 +73,23 @@ pub trait Directory {
         ensures logged { LogsName (MakeName (path_at (members self.old) index)
             (path_at (members self.old) first)) result (log self.old) (log self.new) };
 
-    /// Makes a symbolic link of this text, which is that of the member.
+    /// Makes a symbolic link of this text, which is that of the member, and gives it the member's
+    /// owner.
     fn make_symlink(&mut self, index: usize, text: &[u8]) -> Result<(), Self::Error>
         requires within { index < length (members self.old) }
         requires text { text.now ≡ bytes_at (members self.old) index }
         requires safe { IsSafe (log self.old) (MakeSymlink (path_at (members self.old) index)
-            text.now) }
+            text.now (owner_at (members self.old) index)) }
         ensures same { members self.new ≡ members self.old }
-        ensures logged { Logs (MakeSymlink (path_at (members self.old) index) text.now) result
-            (log self.old) (log self.new) };
+        ensures logged { Logs (MakeSymlink (path_at (members self.old) index) text.now
+            (owner_at (members self.old) index)) result (log self.old) (log self.new) };
 
-    /// Sets the rights of a directory that was made.
+    /// Sets the rights of a directory that was made to those of the member.
     fn set_rights(&mut self, index: usize) -> Result<(), Self::Error>
         requires within { index < length (members self.old) }
-        requires safe { IsSafe (log self.old) (SetRights (path_at (members self.old) index)) }
+        requires safe { IsSafe (log self.old) (SetRights (path_at (members self.old) index)
+            (rights_at (members self.old) index)) }
         ensures same { members self.new ≡ members self.old }
-        ensures logged { Logs (SetRights (path_at (members self.old) index)) result
-            (log self.old) (log self.new) };
+        ensures logged { Logs (SetRights (path_at (members self.old) index)
+            (rights_at (members self.old) index)) result (log self.old) (log self.new) };
 }

@@ -1,16 +1,21 @@
 //! What the theorem refuses.
-ghost use Rattle.std.specs.Prelude.{ℕ, List};
+ghost use Rattle.std.specs.Prelude.{ℕ, List, Option};
 ghost use Rattle.tree_extract.specs.WrongRuns.{RefusesCall, link_followed, led_outside, made_twice};
 ghost use Rattle.tree_extract.specs.WrongRuns.{RefusesLeftOut, RefusesForeign, RefusesRightsFirst};
+ghost use Rattle.tree_extract.specs.WrongRuns.{RefusesOtherRights};
+ghost use Rattle.tree_extract.specs.declared.tree.Owner.{Owner};
 
 /// Shows that the promises refuse wrong runs: a file that is made through a link, or by a path with
 /// `..`, or in place of a link; a member that is left out; a file that is no member; and a file
 /// that is made after the rights of a directory were set.
 pub fn refused_runs()
-    ensures link { (link text rest : List ℕ) → RefusesCall (link_followed link text rest) }
+    ensures link { (link text rest : List ℕ) (owner : Option Owner)
+        → RefusesCall (link_followed link text owner rest) }
     ensures outside { (rest : List ℕ) → RefusesCall (led_outside rest) }
-    ensures twice { (path text : List ℕ) → RefusesCall (made_twice path text) }
+    ensures twice { (path text : List ℕ) (owner : Option Owner)
+        → RefusesCall (made_twice path text owner) }
     ensures left_out { RefusesLeftOut }
     ensures foreign { RefusesForeign }
     ensures rights { RefusesRightsFirst }
+    ensures other { RefusesOtherRights }
 {}

@@ -17,4 +17,4 @@ mod tree;
 pub use account::{Account, Answered, Asked};
 pub use directory::Directory;
 pub use extracting::{Stopped, extract};
-pub use tree::{Kind, Tree};
+pub use tree::{Kind, Owner, Rights, Tree};

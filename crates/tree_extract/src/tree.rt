@@ -21,6 +21,20 @@ pub enum Kind {
     Nothing,
 }
 
+/// The numbers of an owner and a group.
+#[derive(Clone, Copy, Debug, PartialEq, Eq)]
+pub struct Owner {
+    pub uid: u32,
+    pub gid: u32,
+}
+
+/// The mode and the owner of what is made. Without an owner, it stays with the user of the process.
+#[derive(Clone, Copy, Debug, PartialEq, Eq)]
+pub struct Rights {
+    pub mode: u32,
+    pub owner: Option<Owner>,
+}
+
 /// A tree that is extracted. Each member has an index.
 pub trait Tree {
     // The members.

@@ -1,5 +1,5 @@
 use Rattle.tree_extract.proofs.Steps.{next_pass}
-use Rattle.tree_extract.proofs.Rights.{begin}
+use Rattle.tree_extract.proofs.DirectoryRights.{begin}
 use Rattle.tree_extract.proofs.extracting.extract.Goals as goal
 
 pub finish_all-requires-clause-place : goal.finish_all-requires-clause-place

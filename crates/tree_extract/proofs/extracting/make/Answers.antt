@@ -1,9 +1,15 @@
 use Rattle.std.proofs.Common.{rules, sym, ◌∙◌}
-use Rattle.tree_extract.proofs.Steps.{fresh_here}
+use Rattle.tree_extract.proofs.Steps.{fresh_here, skip}
 use Rattle.tree_extract.specs.Passes.{number}
-use Rattle.tree_extract.proofs.Making.{kind_rank, free_there, directory_made, directory_asked, link_made, link_asked}
-use Rattle.tree_extract.proofs.Making.{file_passed, name_passed}
+use Rattle.tree_extract.proofs.Making.{kind_rank, other_rank, free_there, directory_made, directory_asked, link_made}
+use Rattle.tree_extract.proofs.Making.{link_asked, file_passed, name_passed}
 use Rattle.tree_extract.proofs.extracting.make.Goals as goal
+
+pub returns-then-not-is_made_in-clause-ok : goal.returns-then-not-is_made_in-clause-ok
+returns-then-not-is_made_in-clause-ok g c =
+    let ms = g.T.Tree.members c.args.tree.now in
+    skip g.D.Directory.fresh ms (number c.args.phase) c.args.index _ c.requires.place
+    (other_rank ms c.args.index (number c.args.phase) _ c.kind-kind.ensures c.if-not-is_made_in.ensures)
 
 pub make_directory-requires-clause-safe : goal.make_directory-requires-clause-safe
 make_directory-requires-clause-safe g c =

@@ -18,3 +18,6 @@ returns-clause-foreign c = refusals.foreign
 
 pub returns-clause-rights : goal.returns-clause-rights
 returns-clause-rights c = refusals.rights
+
+pub returns-clause-other : goal.returns-clause-other
+returns-clause-other c = refusals.other_rights

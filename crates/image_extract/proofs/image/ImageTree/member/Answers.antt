@@ -3,5 +3,5 @@ use Rattle.image_extract.proofs.image.ImageTree.member.Goals as goal
 
 pub returns : goal.returns
 returns g c =
-    known (g.T.Viewed.image c.args.self.now.image.now) c.args.self.now.members.now c.args.index _
+    known c.args.self.now.giving (g.T.Viewed.image c.args.self.now.image.now) c.args.self.now.members.now c.args.index _
     c.args.self.now.are c.requires.within c.requires.inner

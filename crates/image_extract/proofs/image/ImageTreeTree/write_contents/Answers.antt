@@ -6,9 +6,10 @@ pub member-found-requires : goal.member-found-requires
 member-found-requires g c κs = (
   (refl, (refl, tt)),
   (
-    is_within (g.T.Viewed.image c.args.self.now.image.now) c.args.self.now.members.now c.args.index
+    is_within c.args.self.now.giving (g.T.Viewed.image c.args.self.now.image.now)
+        c.args.self.now.members.now c.args.index
         c.args.self.now.are c.requires.within,
-    no_file (g.T.Viewed.image c.args.self.now.image.now) c.args.index c.requires.file,
+    no_file c.args.self.now.giving (g.T.Viewed.image c.args.self.now.image.now) c.args.index c.requires.file,
   ),
 )
 

@@ -2,7 +2,7 @@
 use Rattle.std.proofs.Common.{◌≡◌, ◌≢◌, inl, inr, ⊎_elim, ◌<◌, ◌+◌, ℕ, cond}
 use Rattle.std.proofs.Common.{List, [], ◌∷◌, Option, length, refl, sym, ap, subst, arith}
 use Rattle.std.proofs.lemmas.Bool.{cases_eq}
-use Rattle.tree_extract.specs.Members.{Member, AreMembers, kind_at, path_at}
+use Rattle.tree_extract.specs.Members.{Member, AreMembers, kind_at, path_at, rights_at}
 use Rattle.tree_extract.specs.Log.{SetRights, Event, Did}
 use Rattle.tree_extract.specs.Safe.{IsSafe}
 use Rattle.tree_extract.specs.Extracted.{IsMadeAs, HasNoRights, AreRightsLast, IsExtracted}
@@ -46,7 +46,7 @@ set_skip known ms k log place other = record {
 
 pub rights_safe : (known : Option (List ℕ)) (ms : List Member) (k : ℕ) (log : List Event) → AreMembers ms
     → IsSet known ms (k + 1) log → k < length ms → kind_at ms k ≡ kind.Directory
-    → IsSafe log (SetRights (path_at ms k))
+    → IsSafe log (SetRights (path_at ms k) (rights_at ms k))
 rights_safe known ms k log members place lt is = (
   inside known ms log k members place.run lt (λ nothing. absurd (cc)),
   subst (IsMadeAs known ms k log) is (place.made k lt),
@@ -54,12 +54,12 @@ rights_safe known ms k log members place lt is = (
 
 pub set_step : (known : Option (List ℕ)) (ms : List Member) (k : ℕ) (log : List Event) → AreMembers ms
     → IsSet known ms (k + 1) log → k < length ms → kind_at ms k ≡ kind.Directory
-    → IsSet known ms k (Did (SetRights (path_at ms k)) ∷ log)
+    → IsSet known ms k (Did (SetRights (path_at ms k) (rights_at ms k)) ∷ log)
 set_step known ms k log members place lt is = record {
-  run = did_run known ms log k (SetRights (path_at ms k)) place.run (rights_safe known ms k log members place lt is) lt
-      (refl, is);
+  run = did_run known ms log k (SetRights (path_at ms k) (rights_at ms k)) place.run
+      (rights_safe known ms k log members place lt is) lt (refl, is, refl);
   made = λ j lj. made_more known ms j log _ (place.made j lj);
-  set = λ j from lj is2. ⊎_elim (λ same. inl (ap (λ i. Did (SetRights (path_at ms i))) same))
+  set = λ j from lj is2. ⊎_elim (λ same. inl (ap (λ i. Did (SetRights (path_at ms i) (rights_at ms i))) same))
       (λ differs. inr (place.set j (omega (arith, from, differs)) lj is2)) (cases_eq j k);
   last = place.last;
 }
