@@ -1,0 +1,90 @@
+"""The bytes of a checked image, and the struct that the library filled for them."""
+
+from __future__ import annotations
+
+import ctypes
+import mmap
+import os
+from typing import Any, Union
+
+from ._errors import Fault, Name, error_of
+from ._library import FAULT, RawEntry, RawFile, RawImage, RawPlace, library
+
+Source = Union[bytes, bytearray, memoryview, mmap.mmap, str, "os.PathLike[str]", "os.PathLike[bytes]"]
+
+
+class _Buffer(ctypes.Structure):
+    """Has the fields of `Py_buffer`."""
+
+    _fields_ = [
+        ("buf", ctypes.c_void_p), ("obj", ctypes.c_void_p), ("len", ctypes.c_ssize_t), ("itemsize", ctypes.c_ssize_t),
+        ("readonly", ctypes.c_int), ("ndim", ctypes.c_int), ("format", ctypes.c_void_p), ("shape", ctypes.c_void_p),
+        ("strides", ctypes.c_void_p), ("suboffsets", ctypes.c_void_p), ("internal", ctypes.c_void_p),
+    ]  # fmt: skip
+
+
+# prototypes of our own: those of ctypes.pythonapi are shared with other packages
+_get_buffer = ctypes.PYFUNCTYPE(ctypes.c_int, ctypes.py_object, ctypes.c_void_p, ctypes.c_int)(("PyObject_GetBuffer", ctypes.pythonapi))
+_release_buffer = ctypes.PYFUNCTYPE(None, ctypes.c_void_p)(("PyBuffer_Release", ctypes.pythonapi))
+
+
+def _address_of(view: memoryview) -> int:
+    """Returns the address of the first byte of a view. The bytes stay there as long as the view is held."""
+    buffer = _Buffer()
+    _get_buffer(view, ctypes.addressof(buffer), 0)
+    try:
+        return buffer.buf or 0
+    finally:
+        _release_buffer(ctypes.addressof(buffer))
+
+
+def _mapped(path: Any) -> Union[bytes, mmap.mmap]:
+    """Returns the bytes of a file, mapped read-only; no bytes if it is empty, since these cannot be mapped."""
+    with open(path, "rb") as file:
+        size = file.seek(0, os.SEEK_END)
+        return mmap.mmap(file.fileno(), size, access=mmap.ACCESS_READ) if size else b""
+
+
+def _view_of(source: Source) -> memoryview:
+    """Returns a read-only view of the bytes of a source."""
+    view = memoryview(_mapped(source) if isinstance(source, (str, os.PathLike)) else source)
+    if not view.c_contiguous:
+        raise ValueError("the bytes of an image have to be contiguous")
+    return (view.cast("B") if view.nbytes else memoryview(b"")).toreadonly()
+
+
+class Held:
+    """Holds the bytes of a checked image, which stay in memory as long as this object, or a view of the bytes.
+
+    The struct `raw` is written only by the check. Each call on a file or directory gets a new struct, so that two
+    threads never share one that is written.
+    """
+
+    __slots__ = ("library", "raw", "view", "_address")
+
+    def __init__(self, source: Source) -> None:
+        self.library, self.view, self.raw = library(), _view_of(source), RawImage()
+        self._address = _address_of(self.view)
+        error = self.library.romtool_check(self.raw, self._address, len(self.view))
+        if error == FAULT:
+            raise Fault(self.raw.fault, self.raw.at)
+        if error:
+            raise MemoryError("the check of an image was refused memory")
+
+    def open_node(self, node: int, path: Name) -> RawFile:
+        """Returns the struct of a directory or regular file, which is opened by its number."""
+        file = RawFile()
+        if error := self.library.romtool_open_node(file, self.raw, node):
+            raise error_of(error, path)
+        return file
+
+    def lent(self, place: RawPlace, path: Name) -> memoryview:
+        """Returns the bytes of a place, or raises its error."""
+        if place.error:
+            raise error_of(place.error, path)
+        return self.view[place.at : place.at + place.len]
+
+    def name_of(self, entry: RawEntry) -> bytes:
+        """Returns the name of an entry."""
+        at = entry.name - self._address if entry.name else 0
+        return bytes(self.view[at : at + entry.name_len])
