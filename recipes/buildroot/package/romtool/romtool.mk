@@ -1,0 +1,18 @@
+# Not tried in Buildroot: only with stubs of its macros (tests/recipes.py). It installs host-romtool from the archive of a
+# release, whose program is static: under fakeroot it sees the builder's owners, and devices as empty files, so use --all-root
+# and --devices, or name a dynamically linked program by HOST_ROMTOOL_PROGRAM.
+
+ROMTOOL_VERSION = 2.0.0
+ROMTOOL_SOURCE = romtool-$(ROMTOOL_VERSION)-x86_64-linux.tar.gz
+# set it to the directory or the address that has the files of a release, and write their SHA256SUMS to romtool.hash
+ROMTOOL_SITE ?= https://example.invalid/romtool/$(ROMTOOL_VERSION)
+ROMTOOL_LICENSE = MIT
+ROMTOOL_LICENSE_FILES = share/doc/romtool/LICENSE
+
+HOST_ROMTOOL_PROGRAM ?= $(@D)/bin/romtool
+
+define HOST_ROMTOOL_INSTALL_CMDS
+	$(INSTALL) -D -m 0755 $(HOST_ROMTOOL_PROGRAM) $(HOST_DIR)/bin/romtool
+endef
+
+$(eval $(host-generic-package))
