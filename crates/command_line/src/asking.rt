@@ -5,8 +5,8 @@ ghost use Rattle.command_line.specs.Numbers.{AreAddresses, AreAligns, IsAddress,
 ghost use Rattle.formats.specs.Format.{name_of};
 ghost use Rattle.command_line.specs.Numbers.{IsOptional, IsSize, NotesAlign};
 ghost use Rattle.command_line.specs.Words.{AreTexts, HasNoValueForAll, IsAskedBy, IsFlag, IsForm};
-ghost use Rattle.command_line.specs.Words.{IsOffsetOf, IsOwnerOf, IsPlainScan, texts_or_none};
-ghost use Rattle.command_line.specs.Words.{word_of};
+ghost use Rattle.command_line.specs.Words.{IsDirectory, IsOffsetOf, IsOwnerOf, IsPlainScan};
+ghost use Rattle.command_line.specs.Words.{texts_or_none, word_of};
 ghost use Rattle.command_line.specs.declared.request.Request.TheVariants as request;
 
 use crate::error::{WordsError, Wrong};
@@ -244,6 +244,17 @@ fn format<'a>(word: &'a str) -> Result<Format, WordsError<'a>>
     }
 }
 
+/// Returns the directory of the sources, if one is given. An empty name, such as that of a variable
+/// without a value, is none.
+fn sources_of<'a>(values: &ArgMatches<'a>) -> Result<Option<&'a str>, WordsError<'a>>
+    ensures { IfOk result (IsDirectory (rows_of (found_of values.now))) }
+{
+    match value_of(values, "directory") {
+        Some(name) if name.is_empty() => Err(Wrong::NoDirectory.into()),
+        directory => Ok(directory),
+    }
+}
+
 /// Returns the build that is asked for.
 fn build_of<'a>(values: &ArgMatches<'a>) -> Result<Build<'a>, WordsError<'a>>
     ensures { IfOk result (λ b. IsAskedBy (rows_of (found_of values.now)) (request.Build b)) }
@@ -252,6 +263,7 @@ fn build_of<'a>(values: &ArgMatches<'a>) -> Result<Build<'a>, WordsError<'a>>
     let manifest = wanted(values, "manifest")?;
     let out = wanted(values, "out")?;
     let max_size = size_of(values, "max-size")?;
+    let sources = sources_of(values)?;
     Ok(Build {
         format,
         manifest,
@@ -260,7 +272,7 @@ fn build_of<'a>(values: &ArgMatches<'a>) -> Result<Build<'a>, WordsError<'a>>
         strict: is_given(values, "strict"),
         xip: is_given(values, "xip"),
         max_size,
-        sources: value_of(values, "directory"),
+        sources,
         depfile: value_of(values, "depfile"),
     })
 }
@@ -343,6 +355,10 @@ fn scan_all_of<'a>(alloc: Global, values: &ArgMatches<'a>) -> Result<ScanAll<'a>
     let directories = texts_of(alloc, values, "folder")?;
     let excludes = texts_of(alloc, values, "exclude")?;
     let format = wished_format(values)?;
+    let strict = is_given(values, "strict");
+    if strict && format.is_none() {
+        return Err(Wrong::StrictWithoutFormat.into());
+    }
     let aligns = aligns_of(alloc, values)?;
     let owner = wished_owner(values)?;
     Ok(ScanAll {
@@ -356,7 +372,7 @@ fn scan_all_of<'a>(alloc: Global, values: &ArgMatches<'a>) -> Result<ScanAll<'a>
         devices: value_of(values, "devices"),
         output: value_of(values, "output"),
         one_file_system: is_given(values, "one-file-system"),
-        strict: is_given(values, "strict"),
+        strict,
     })
 }
 

@@ -30,6 +30,10 @@ pub enum Wrong<'a> {
     Directories,
     /// Both an owner and `--all-root` were given.
     Owners,
+    /// The directory of the sources has an empty name.
+    NoDirectory,
+    /// A strict scan has no format.
+    StrictWithoutFormat,
 }
 
 /// Why words ask for nothing. It is shown to people; if clap refused the words, in clap's text.
@@ -78,6 +82,8 @@ impl Display for Wrong<'_> {
             Wrong::WithoutAll(name) => write!(f, "the option '--{name}' goes with '--all' only"),
             Wrong::Directories => write!(f, "several directories are scanned with '--all' only"),
             Wrong::Owners => write!(f, "'--owner' and '--all-root' do not go together"),
+            Wrong::NoDirectory => write!(f, "DIR is empty; '.' is the current directory"),
+            Wrong::StrictWithoutFormat => write!(f, "'--strict' goes with '--for' only"),
         }
     }
 }

@@ -168,7 +168,7 @@ const ADVICE: Word<'static> = Word {
     kind: Kind::Flag,
     name: "advice",
     shown: "",
-    help: "Also prints which programs have more than a page behind their last segment",
+    help: "Also prints what costs space: much behind a program's segments, alignment of other files",
 };
 
 const IMAGES: Word<'static> = Word {

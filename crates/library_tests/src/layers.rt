@@ -1,5 +1,5 @@
 //! The layers in front of a program's streams, over a stream that is interrupted and fails.
-use program_streams::{Again, Ahead, Held, Remembering, read_at_again, read_until};
+use program_streams::{Again, Ahead, Held, Remembering, read_until};
 use rom_fields::{ByteWrite, Plain};
 use std::io::{self, BufRead, ErrorKind, Read, Write};
 
@@ -108,13 +108,6 @@ fn reads_on_after_a_failure(rt: HostRuntime) {
     assert!(rt; bytes.as_slice() == b"ab".as_slice());
     assert!(rt; read_until(&mut reader, &mut bytes, 5, 0).is_ok());
     assert!(rt; bytes.as_slice() == b"abcde".as_slice());
-}
-
-#[test]
-fn part_is_read_from_its_position(rt: HostRuntime) {
-    let mut buf = [0u8; 3];
-    assert!(rt; read_at_again(&b"hello".as_slice(), 4, &mut buf).ok() == Some(1));
-    assert!(rt; buf == *b"o\0\0");
 }
 
 #[test]

@@ -6,6 +6,7 @@
 use crate::explained;
 use crate::reporter::Reporter;
 use manifest::{ManifestError, parse};
+use percent_encoding::percent_decode;
 use sentences::words::escaped;
 use std::alloc::{AllocError, Global};
 use std::collections::BTreeMap;
@@ -24,41 +25,11 @@ enum Made {
 /// The paths of earlier lines, and what these make.
 type Paths = BTreeMap<Vec<u8>, Made>;
 
-/// The value of a hexadecimal digit.
-fn digit(byte: u8) -> Option<u8> {
-    match byte {
-        b'0'..=b'9' => Some(byte.wrapping_sub(b'0')),
-        b'a'..=b'f' => Some(byte.wrapping_sub(b'a').wrapping_add(10)),
-        b'A'..=b'F' => Some(byte.wrapping_sub(b'A').wrapping_add(10)),
-        _ => None,
-    }
-}
-
-/// The byte that is encoded at the front of a field, after its `%`.
-fn encoded(field: &[u8]) -> Option<u8> {
-    let (high, low) = (digit(*field.first()?)?, digit(*field.get(1)?)?);
-    Some(high.wrapping_mul(16).wrapping_add(low))
-}
-
 /// A field of a line, decoded.
 fn decoded(alloc: Global, field: &[u8]) -> Result<Vec<u8>, AllocError> {
-    let mut out = Vec::new(alloc);
-    let mut skipped = 0u32;
-    for (at, byte) in field.iter().enumerate() {
-        if skipped > 0 {
-            skipped = skipped.saturating_sub(1);
-            continue;
-        }
-        let behind = field.get(at.saturating_add(1)..).unwrap_or(&[]);
-        match encoded(behind) {
-            Some(value) if *byte == b'%' => {
-                out.push(value)?;
-                skipped = 2;
-            }
-            _ => out.push(*byte)?,
-        }
-    }
-    Ok(out)
+    let mut bytes = Vec::new(alloc);
+    percent_decode(field).append_to(&mut bytes)?;
+    Ok(bytes)
 }
 
 /// The last field of a line.

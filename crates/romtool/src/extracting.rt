@@ -7,12 +7,12 @@ ghost use Rattle.image_manifest.specs.Describable.{IsLawfulTree};
 use crate::directories::base;
 use crate::extraction::System;
 use crate::making::Top;
-use crate::members::{Extraction, LENDING};
+use crate::members::Extraction;
 use crate::reporter::Reporter;
 use crate::totals::is_many_times;
 use command_line::Extract;
 use image_check::AnyImage;
-use image_extract::ImageTree;
+use image_extract::{Giving, ImageTree, LENDING};
 use image_info::volume;
 use image_manifest::{Member, Refused, members, write_manifest};
 use program_streams::Again;
@@ -95,7 +95,7 @@ impl Extraction<'_> {
         }
         counts.further = system.further;
         counts.copies = system.copies;
-        match top.end(self.rights(0)) {
+        match top.end(self.tree.rights(0)) {
             Ok(()) => Ok(()),
             Err(e) => Err(self.reporter.refused(directory.as_bytes(), &e)),
         }
@@ -114,8 +114,18 @@ impl Extraction<'_> {
             Ok(top) => top,
             Err(e) => return Err(reporter.refused(directory.as_bytes(), &e)),
         };
-        let mut filling = *self;
-        filling.masked = top.masked();
+        let tree = ImageTree {
+            image: self.tree.image,
+            members: self.tree.members,
+            giving: Giving {
+                masked: top.masked(),
+                ..self.tree.giving
+            },
+        };
+        let filling = Extraction {
+            tree: &tree,
+            ..*self
+        };
         match filling.fill(directory, top, &mut counts) {
             Ok(()) => Ok(counts),
             Err(status) => {
@@ -129,7 +139,12 @@ impl Extraction<'_> {
     fn explain(&self, counts: Counts) {
         if self.reporter.is_explained() {
             self.explain_one(counts.specials, SPECIALS);
-            self.explain_one(if self.owners { 0 } else { counts.lending }, LENDERS);
+            let lending = if self.tree.giving.owners {
+                0
+            } else {
+                counts.lending
+            };
+            self.explain_one(lending, LENDERS);
             self.explain_one(counts.further, FURTHER);
             self.explain_one(counts.copies, COPIES);
         }
@@ -200,8 +215,6 @@ fn take_apart<'a>(
         reporter,
         tree,
         directory,
-        owners: asked.owners,
-        masked: 0,
     };
     match extraction.run(asked.directory) {
         Ok(counts) => {
@@ -229,6 +242,10 @@ pub fn run<'a>(reporter: &'a Reporter<'a>, image: &'a AnyImage<'a>, asked: Extra
             &ImageTree {
                 image,
                 members: &members,
+                giving: Giving {
+                    owners: asked.owners,
+                    masked: 0,
+                },
             },
             asked,
         ),

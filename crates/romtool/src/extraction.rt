@@ -3,8 +3,9 @@
 //! It is proved of the account that is kept here that each call was safe and makes a member of the
 //! image, and that all members were made if no call was refused (`tree_extract::extract`). The
 //! proof trusts this file by reading: each method of `Directory` makes the call of the system that
-//! its name says, at the path that `place` returns, and notes what the system returned. Such a path
-//! begins at the current directory, which is the one that is filled (`Top::enter`).
+//! its name says, at the path that `place` returns and with the rights that are noted, and notes
+//! what the system returned. Such a path begins at the current directory, which is the one that is
+//! filled (`Top::enter`).
 ghost use Rattle.std.specs.Prelude.{◌≡◌, ◌<◌, ◌++◌, [], List, codes, length, string_bytes};
 ghost use Rattle.std.specs.Prelude.{IfOk, OnOk};
 ghost use Rattle.image_check.specs.Any.{any_view};
@@ -51,12 +52,14 @@ impl<'a> System<'a> {
 
     /// Asks for memory to note one more call, and returns the path of the member at an index.
     fn place(&mut self, index: usize) -> io::Result<String>
-        requires { index < length (members_in (any_view self.old.extraction.tree.now.image.now)) }
+        requires { index < length (members_in self.old.extraction.tree.now.giving
+            (any_view self.old.extraction.tree.now.image.now)) }
         ensures extraction { self.new.extraction ≡ self.old.extraction }
         ensures same { self.new.account.answered.items ≡ self.old.account.answered.items }
         ensures room { OnOk result (0 < room_of self.new.account) }
         ensures place { IfOk result (λ p. string_bytes p ≡ codes "."
-            ++ path_at (members_in (any_view self.old.extraction.tree.now.image.now)) index) }
+            ++ path_at (members_in self.old.extraction.tree.now.giving
+            (any_view self.old.extraction.tree.now.image.now)) index) }
     {
         self.account.reserve()?;
         self.extraction.place(index)
@@ -71,10 +74,12 @@ impl Directory for System<'_> {
 
     type File = Writer;
 
-    ghost members = { λ s. members_in (any_view s.extraction.tree.now.image.now) };
+    ghost members = { λ s. members_in s.extraction.tree.now.giving
+        (any_view s.extraction.tree.now.image.now) };
 
     ghost log = { λ s.
-        log_of (members_in (any_view s.extraction.tree.now.image.now)) s.account };
+        log_of (members_in s.extraction.tree.now.giving
+        (any_view s.extraction.tree.now.image.now)) s.account };
 
     ghost fresh = { None };
 
@@ -99,9 +104,10 @@ impl Directory for System<'_> {
         if let Some(e) = error {
             return Err(e);
         }
-        let rights = self.extraction.rights(index);
+        let rights = self.extraction.tree.rights(index);
         let finished = finish_file(self.extraction.reporter.rt, file.into_inner(), rights);
-        self.account.answer(Asked::FinishFile, index, finished)
+        self.account
+            .answer(Asked::FinishFile(rights), index, finished)
     }
 
     fn unwritten(&self, file: Writer) -> io::Error {
@@ -127,15 +133,18 @@ impl Directory for System<'_> {
 
     fn make_symlink(&mut self, index: usize, text: &[u8]) -> io::Result<()> {
         let place = self.place(index)?;
-        let (text, owner) = (accepted_text(text)?, self.extraction.rights(index).owner);
+        let (text, owner) = (
+            accepted_text(text)?,
+            self.extraction.tree.rights(index).owner,
+        );
         let made = new_link(self.extraction.reporter.rt, text, &place, owner);
-        self.account.answer(Asked::MakeSymlink, index, made)
+        self.account.answer(Asked::MakeSymlink(owner), index, made)
     }
 
     fn set_rights(&mut self, index: usize) -> io::Result<()> {
         let place = self.place(index)?;
-        let rights = self.extraction.rights(index);
+        let rights = self.extraction.tree.rights(index);
         let set = set_directory(self.extraction.reporter.rt, &place, rights);
-        self.account.answer(Asked::SetRights, index, set)
+        self.account.answer(Asked::SetRights(rights), index, set)
     }
 }

@@ -9,6 +9,7 @@ use std::os::unix::fs::{
     DirBuilderExt, MetadataExt, OpenOptionsExt, PermissionsExt, fchown, lchown, symlink,
 };
 use std::{env, io};
+use tree_extract::{Owner, Rights};
 
 /// The permissions of a directory while it is filled. Nobody else may read it.
 const PRIVATE_FOLDER: u32 = 0o700;
@@ -39,29 +40,13 @@ const TOO_MANY_NAMES: i32 = 31;
 
 const NOT_SUPPORTED: i32 = 95;
 
-/// The numbers of an owner and a group.
-#[derive(Clone, Copy)]
-pub struct Owner {
-    pub uid: u32,
-    pub gid: u32,
-}
-
-/// The mode and the owner of a new file. Without an owner, it stays with the user of the process.
-#[derive(Clone, Copy)]
-pub struct Rights {
-    pub mode: u32,
-    pub owner: Option<Owner>,
-}
-
-impl Rights {
-    /// Gives a file or a directory this mode and owner. The owner comes first, since a change of
-    /// owner clears bits of the mode.
-    pub fn give(&self, file: &File) -> io::Result<()> {
-        if let Some(owner) = self.owner {
-            fchown(file, Some(owner.uid), Some(owner.gid))?;
-        }
-        file.set_permissions(Permissions::from_mode(self.mode))
+/// Gives a file or a directory this mode and owner. The owner comes first, since a change of owner
+/// clears bits of the mode.
+fn give(file: &File, rights: Rights) -> io::Result<()> {
+    if let Some(owner) = rights.owner {
+        fchown(file, Some(owner.uid), Some(owner.gid))?;
     }
+    file.set_permissions(Permissions::from_mode(rights.mode))
 }
 
 /// Makes a directory that nobody else may read.
@@ -112,14 +97,14 @@ fn sync_directory(directory: &File) -> io::Result<()> {
 /// Sets the mode and owner of a directory that was made, and syncs it to the disk.
 pub fn set_directory(rt: &HostRuntime, place: &str, rights: Rights) -> io::Result<()> {
     let directory = opened(rt, place)?;
-    rights.give(&directory)?;
+    give(&directory, rights)?;
     sync_directory(&directory)
 }
 
 /// Sets the mode and owner of a file that was written, syncs it to the disk, and closes it. Some
 /// file systems report only then that they lost what was written.
 pub fn finish_file(rt: &HostRuntime, file: File, rights: Rights) -> io::Result<()> {
-    rights.give(&file)?;
+    give(&file, rights)?;
     file.sync_all()?;
     close(rt, file)
 }
@@ -245,7 +230,7 @@ impl Top {
         if !is_made {
             return sync_directory(&directory);
         }
-        rights.give(&directory)?;
+        give(&directory, rights)?;
         sync_directory(&directory)?;
         match above {
             Ok(above) => sync_directory(&above),

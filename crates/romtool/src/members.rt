@@ -1,19 +1,15 @@
-//! The members of an image that is extracted: the path of each in the directory, and the mode and
-//! owner of what is made of it.
+//! The members of an image that is extracted, and the path of each in the directory.
 ghost use Rattle.std.specs.Prelude.{◌≡◌, ◌<◌, ◌++◌, codes, length, string_bytes, IfOk};
 ghost use Rattle.image_check.specs.Any.{any_view};
-ghost use Rattle.image_extract.specs.Members.{members_in, stat_at};
-ghost use Rattle.romtool.specs.Rights.{given_mode, given_owner};
+ghost use Rattle.image_extract.specs.Members.{members_in};
 ghost use Rattle.tree_extract.specs.Members.{path_at};
 
-use crate::making::{Owner, Rights};
 use crate::reporter::Reporter;
 use arrayvec::ArrayVec;
 use image_check::AnyImage;
 use image_extract::ImageTree;
 use image_manifest::PATH_MAX;
 use rom_commands::{Ending, Status};
-use rom_tree::Stat;
 use sentences::reasons::{LINK_UNFIT, NAME_UNFIT, NO_TEXT};
 use std::alloc::AllocError;
 use std::{io, str};
@@ -24,9 +20,6 @@ const LONGEST_NAME: usize = 255;
 
 /// The most bytes of a path, or of a link's text, in Linux.
 const LONGEST_PATH: usize = 4095;
-
-/// The set-user and set-group bits of a mode.
-pub const LENDING: u32 = 0o6000;
 
 /// Returns the text of a link, if the system accepts it.
 ///
@@ -51,18 +44,16 @@ pub struct Extraction<'a> {
     pub reporter: &'a Reporter<'a>,
     pub tree: &'a ImageTree<'a, 'a, AnyImage<'a>>,
     pub directory: &'a str,
-    /// Whether modes and owners are those of the image.
-    pub owners: bool,
-    /// The bits of a mode that the process's mask removes from new files.
-    pub masked: u32,
 }
 
 impl Extraction<'_> {
     /// Returns the path of the member at an index, after that of a directory.
     fn named_in(&self, directory: &str, index: usize) -> Result<Vec<u8>, AllocError>
-        requires { index < length (members_in (any_view self.now.tree.now.image.now)) }
+        requires { index < length (members_in self.now.tree.now.giving
+            (any_view self.now.tree.now.image.now)) }
         ensures { IfOk result (λ v. v.items ≡ directory.now
-            ++ path_at (members_in (any_view self.now.tree.now.image.now)) index) }
+            ++ path_at (members_in self.now.tree.now.giving
+            (any_view self.now.tree.now.image.now)) index) }
     {
         let mut path: ArrayVec<u8, PATH_MAX> = ArrayVec::new();
         self.tree.path(index, &mut path);
@@ -79,9 +70,11 @@ impl Extraction<'_> {
     ///
     /// `OutOfMemory`; `InvalidFilename` if the path is no UTF-8.
     pub fn place(&self, index: usize) -> io::Result<String>
-        requires { index < length (members_in (any_view self.now.tree.now.image.now)) }
+        requires { index < length (members_in self.now.tree.now.giving
+            (any_view self.now.tree.now.image.now)) }
         ensures { IfOk result (λ p. string_bytes p ≡ codes "."
-            ++ path_at (members_in (any_view self.now.tree.now.image.now)) index) }
+            ++ path_at (members_in self.now.tree.now.giving
+            (any_view self.now.tree.now.image.now)) index) }
     {
         match String::from_utf8(self.named_in(".", index)?) {
             Ok(place) => Ok(place),
@@ -89,31 +82,10 @@ impl Extraction<'_> {
         }
     }
 
-    /// Returns the mode and owner of what is made of the member at an index.
-    pub fn rights(&self, index: usize) -> Rights
-        requires { index < length (members_in (any_view self.now.tree.now.image.now)) }
-        ensures mode { result.mode ≡ given_mode self.now.owners self.now.masked
-            (stat_at (any_view self.now.tree.now.image.now) index).mode }
-        ensures owner { result.owner ≡ given_owner self.now.owners
-            (stat_at (any_view self.now.tree.now.image.now) index) }
-    {
-        let Stat { mode, uid, gid, .. } = self.tree.stat(index);
-        if self.owners {
-            Rights {
-                mode,
-                owner: Some(Owner { uid, gid }),
-            }
-        } else {
-            Rights {
-                mode: mode & !LENDING & !self.masked,
-                owner: None,
-            }
-        }
-    }
-
     /// Checks that the system accepts the path of the member at an index, and a link's text.
     pub fn try_name(&self, index: usize) -> io::Result<()>
-        requires { index < length (members_in (any_view self.now.tree.now.image.now)) }
+        requires { index < length (members_in self.now.tree.now.giving
+            (any_view self.now.tree.now.image.now)) }
     {
         let place = self.place(index)?;
         let longest = place.split('/').map(str::len).max().unwrap_or(0);
@@ -130,7 +102,8 @@ impl Extraction<'_> {
 
     /// Reports why the member at an index cannot be made, or could not be made.
     pub fn refused(&self, index: usize, e: &io::Error) -> Status
-        requires { index < length (members_in (any_view self.now.tree.now.image.now)) }
+        requires { index < length (members_in self.now.tree.now.giving
+            (any_view self.now.tree.now.image.now)) }
     {
         match self.named_in(self.directory, index) {
             Ok(name) => self.reporter.refused(&name, e),

@@ -2,8 +2,9 @@
 use crate::aligning::align_all;
 use crate::beside::KeepError;
 use crate::inventory::all_below;
-use crate::overlay::{OverlayError, laid_over, sort};
+use crate::overlay::{OverlayError, is_directory, laid_over, sort};
 use crate::patterns::Patterns;
+use crate::place::{behind_links, directory_of, name_in_directory};
 use crate::reporter::Reporter;
 use crate::stamp::Identity;
 use crate::target::Target;
@@ -17,9 +18,11 @@ use rom_commands::{Ending, Status};
 use rom_fields::{Failed, Plain};
 use sentences::reasons::{
     KINDS_DIFFER, LONG_NAME, MANIFEST_NOT_TAKEN, OWN_ERROR, OWN_FILE, OWN_STREAM, PART_REPLACED,
+    SCANNED,
 };
-use std::fs;
+use std::alloc::AllocError;
 use std::io::{self, BufWriter};
+use std::{fs, str};
 
 /// The most bytes of a volume's name.
 const MOST_VOLUME: usize = 255;
@@ -65,10 +68,57 @@ fn with_devices(
     laid(reporter, found)
 }
 
+/// Whether the next scan would find a file of this name in a directory that was found.
+fn is_found_in(
+    rt: &HostRuntime,
+    directory: &NamedFile,
+    name: &str,
+    patterns: &Patterns,
+) -> Result<bool, AllocError> {
+    let path = str::from_utf8(directory.path()).unwrap_or("");
+    let path = format!(in rt.alloc(); "{path}/{}", name_in_directory(name))?;
+    Ok(!patterns.exclude(rt.alloc(), path.trim_start_matches('/'))?)
+}
+
+/// Refuses to write the manifest into a directory that is scanned, unless its file is excluded: the
+/// next scan would find it.
+fn check_output(
+    reporter: &Reporter<'_>,
+    scan: &ScanAll<'_>,
+    found: &[NamedFile],
+    patterns: &Patterns,
+) -> Result<(), Status> {
+    let Some(name) = scan.output else {
+        return Ok(());
+    };
+    let led = behind_links(reporter.rt, name);
+    let whole = match &led {
+        Ok(whole) => whole.as_str(),
+        Err(_) => name,
+    };
+    let Ok(there) = fs::metadata(reporter.rt, directory_of(whole)) else {
+        return Ok(());
+    };
+    let is_there = |file: &NamedFile| {
+        let inode = &file.inode;
+        is_directory(file) && Identity::at(inode.device, inode.number) == Identity::of(&there)
+    };
+    match found.iter().find(|file| is_there(file)) {
+        None => Ok(()),
+        Some(directory) => match is_found_in(reporter.rt, directory, whole, patterns) {
+            Ok(false) => Ok(()),
+            Ok(true) => Err(reporter.failed(name.as_bytes(), &SCANNED)),
+            Err(_) => Err(reporter.say(Ending::Memory)),
+        },
+    }
+}
+
 /// All files of the manifest, in the order of its lines.
 fn all_found(reporter: &Reporter<'_>, scan: &ScanAll<'_>) -> Result<Vec<NamedFile>, Status> {
     let patterns = Patterns::of(reporter, scan)?;
-    let mut found = laid(reporter, all_below(reporter, scan, &patterns)?)?;
+    let found = all_below(reporter, scan, &patterns)?;
+    check_output(reporter, scan, &found, &patterns)?;
+    let mut found = laid(reporter, found)?;
     own_all(&mut found, scan.owner);
     align_all(reporter, &patterns, scan.align, &mut found)?;
     with_devices(reporter, scan.devices, found)

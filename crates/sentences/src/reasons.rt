@@ -137,6 +137,9 @@ pub const KINDS_DIFFER: &str = "a directory and another kind of file cannot repl
 /// The manifest has the name of a file that it lists, or of the file of devices.
 pub const OWN_FILE: &str = "it is a file that the manifest lists, or the file of --devices";
 
+/// The manifest would be in a directory that is scanned.
+pub const SCANNED: &str = "it is in a scanned directory, so the next scan would list it";
+
 /// The manifest has the name of standard output.
 pub const OWN_STREAM: &str = "it is the file that standard output is written to";
 
