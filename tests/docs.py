@@ -10,7 +10,8 @@
 - Each link has to lead to a file that exists, and to a heading of it.
 - Each function that is named by its crate has to exist, and others can name it so. Each function and type in the table of what
   is proved has to be declared in its crate, a method in its type.
-- What a tool makes of a document has to be what the tool prints.
+- The picture in ARCHITECTURE is what tools/picture makes. tools/tables has a line for each crate and each file of definitions, and
+  tools/reading_list prints its list. tests/clauses.txt is what tools/clauses prints.
 - The table of parts in GATE.md has to name the parts of tests/parts, in any order.
 - Each fault of the table in tools/faults.py has a section and a phase in FAULTS.md, and a row in FORMATS.md. For each format of
   its rows a case of tests/cases has it. What is made of the table has to be as `tools/tables faults` writes it.
@@ -39,12 +40,6 @@ import faults  # noqa: E402
 
 BLOCK = re.compile(r"^```(console|\w+ from=\S+)\n(.*?)^```$", re.M | re.S)
 LINK = re.compile(r"\]\(([^)\s]+)\)")
-# the parts of documents that tools make, each between a mark and the next `<!-- end -->`
-MADE = (
-    ("docs/internals/ARCHITECTURE.md", ["tools/reading_list"]),
-    ("docs/internals/ARCHITECTURE.md", ["tools/tables", "crates"]),
-    ("docs/internals/DEFINITIONS.md", ["tools/tables", "definitions"]),
-)
 # what documents name of the toolchain
 FOREIGN = ("std", "core", "io", "fs", "std_io", "clap")
 # where a name is declared, or a trait of std is given to a type
@@ -56,7 +51,7 @@ UNNAMED = ("CHANGELOG.md",)
 
 def documents():
     """Returns the documents, by their paths in the repository."""
-    folders = ("", "docs/", "docs/internals/", "bench/", "crates/*/", "bindings/*/", "web/")
+    folders = ("", "docs/", "docs/internals/", "bench/", "crates/*/", "bindings/*/", "recipes/", "web/")
     found = [it for folder in folders for it in glob.glob("%s/%s*.md" % (TOP, folder))]
     return sorted(os.path.relpath(it, TOP) for it in found)
 
@@ -219,18 +214,29 @@ def output_of(command):
 
 
 def made_parts(counts):
-    """Compares each part of a document that a tool makes with what the tool prints."""
-    for name, command in MADE:
-        mark = re.escape("<!-- made by %s -->" % " ".join(command))
-        told = re.search(mark + r"\n(.*?)<!-- end -->", text_of(name), re.S)
-        if told and told[1] == output_of(command):
-            counts.passes()
-        else:
-            counts.fails("%s: a part of it is not what %s prints" % (name, " ".join(command)))
+    """Checks what tools make of the sources: a picture, and the lists that they print."""
     if text_of("docs/internals/dataflow.svg") == output_of(["tools/picture", "docs/internals/dataflow.txt"]):
         counts.passes()
     else:
         counts.fails("docs/internals/dataflow.svg is not what tools/picture makes of dataflow.txt")
+    crates = sorted(os.path.basename(it) for it in glob.glob(TOP + "/crates/*"))
+    told = re.findall(r"^(\w+): \S", output_of(["tools/tables", "crates"]) or "", re.M)
+    counts.equal("tools/tables has a line for each crate", sorted(told), crates)
+    files = sorted(os.path.relpath(it, TOP) for it in glob.glob(TOP + "/crates/*/specs/*.antt") if not it.endswith("/Lib.antt"))
+    told = re.findall(r"^(\S+): \S", output_of(["tools/tables", "definitions"]) or "", re.M)
+    counts.equal("tools/tables has a line for each file of definitions", sorted(told), files)
+    steps = re.findall(r"^(\d)\. ", output_of(["tools/reading_list"]) or "", re.M)
+    counts.equal("tools/reading_list prints its steps", "".join(steps), "123456789")
+
+
+def clauses(counts):
+    """Compares the clauses that documents name, and the definitions that they cite, with those that were kept."""
+    kept, found = text_of("tests/clauses.txt").splitlines(), (output_of(["tools/clauses"]) or "").splitlines()
+    for line in sorted({*kept, *found}):
+        if line in kept and line in found:
+            counts.passes()
+        else:
+            counts.fails("tests/clauses.txt (made by `tools/clauses --write`): %s: %s" % ("gone" if line in kept else "new", line))
 
 
 def parts(counts):
@@ -354,6 +360,7 @@ def main():
                 session(name, sessions, binary, counts, NOBODY)
     promises(counts)
     made_parts(counts)
+    clauses(counts)
     parts(counts)
     fault_table(counts)
     return counts.close()

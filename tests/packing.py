@@ -299,7 +299,7 @@ def strict(tester):
     owner = ["--owner", "0:300"]
     run = tester.run
     tester.is_same("strict: fits", run(["scan", "--all", "--strict", "--all-root", "--for", "cramfs", "strict"])[1:], ("", 0))
-    tester.is_same("strict: no format", run(["scan", "--all", "--strict", *owner, "strict"])[1:], ("", 0))
+    tester.is_same("strict: no format", run(["scan", "--all", "--strict", *owner, "strict"]), ("", "usage\n", 2))
     wanted = ("", "unfit 0 6 0\n", 1)
     tester.is_same("strict: groups", run(["scan", "--all", "--strict", *owner, "--for", "cramfs", "strict"]), wanted)
     wanted = ("", "unfit 6 6 3\n", 1)
@@ -330,6 +330,13 @@ def outputs(tester):
     tester.is_same("-o /dev/full", tester.run(["scan", "--all", "-o", "/dev/full", "small"]), ("", "file /dev/full\n", 3))
     tester.is_same("-o in no directory", tester.run(["scan", "--all", "-o", "no/x", "small"]), ("", "file no/x\n", 3))
     tester.is_same("-o over a file of it", tester.run(["scan", "--all", "-o", "small/a", "small"]), ("", "file small/a\n", 3))
+    inside = ("", "file small/new\n", 3)
+    tester.is_same("-o in a scanned directory", tester.run(["scan", "--all", "-o", "small/new", "small"]), inside)
+    os.makedirs(f"{room}/over")
+    tester.is_same("-o in the lower directory", tester.run(["scan", "--all", "-o", "small/new", "small", "over"]), inside)
+    tester.is_same("-o makes no file there", os.listdir(f"{room}/small"), ["a"])
+    out = ["-o", "over/new", "--exclude", "/new"]
+    tester.is_same("-o of an excluded name", tester.run(["scan", "--all", *out, "small", "over"]), ("", "", 0))
     tester.is_same("-o of a failed scan", tester.run(["scan", "--all", "-o", "there", "missing"]), ("", "file missing\n", 3))
     with open(f"{room}/there", encoding="ascii") as file:
         tester.is_same("-o of a failed scan: the old text", file.read(), manifest)

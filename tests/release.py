@@ -164,6 +164,7 @@ def installs(binary, library, top, counts):
         works(counts, [*words, prefix, root])
     there = below(root + prefix)
     wanted = ["bin/romtool", "share/man/man1/romtool.1", "share/doc/romtool/README.md", *installation.COMPLETIONS.values()]
+    wanted += ["share/romtool/" + it for it in installation.RECIPES.values()]
     wanted += ["lib/libromtool.a", "include/romtool.h", "include/romtool_heap.h", "lib/pkgconfig/romtool.pc"] if library else []
     counts.equal("what tools/install leaves out", [it for it in wanted if it not in there], [])
     with open(root + "/opt/own", "w", encoding="utf-8"):

@@ -24,7 +24,7 @@ from files import text_of
 from harness import SECONDS, TOP, Counts, missing
 
 CRATES = os.path.join(TOP, "crates")
-FOLDERS = ("tests", "tools", "bench")
+FOLDERS = ("tests", "tools", "bench", *("bindings/python/" + it for it in ("romtool", "tests", "examples")))
 # what no script does: change the current directory, which is that of all threads, or wait for a time instead of an event
 FORBIDDEN = {"changes the current directory": r"\bos\.f?chdir\(", "sleeps": r"\btime\.sleep\("}
 ALLOWED = {("tests/files.py", "sleeps"): 1}  # the loop of `wait_until`

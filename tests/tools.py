@@ -72,10 +72,22 @@ def try_words(counts):
                           (["tools/library", "--help"], 0), (["tools/edits", "--help"], 2), (["tools/unproved", "--help"], 2),
                           (["tools/install", "--help"], 0), (["tools/release", "--help"], 0), (["tools/completions.py"], 2),
                           (["tools/rom32", "--help"], 0), (["tools/rom32"], 2), (["tools/rom32", "i386"], 2),
-                          (["tools/page", "--help"], 0)):  # fmt: skip
+                          (["tools/page", "--help"], 0), (["tools/clauses", "--help"], 2), (["tools/goals", "--help"], 2)):  # fmt: skip
         ran = subprocess.run([os.path.join(top, words[0]), *words[1:]], capture_output=True, text=True)
         counts.equal(" ".join(words), ran.returncode, status)
         counts.equal(" ".join(words) + " says its words", words[0] in ran.stdout + ran.stderr, True)
+
+
+def try_goals(counts):
+    """tools/goals knows which functions an edit changes, and where their proofs are."""
+    loader = importlib.machinery.SourceFileLoader("goals_script", os.path.join(TOOLS, "goals"))
+    goals = importlib.util.module_from_spec(importlib.util.spec_from_loader("goals_script", loader))
+    loader.exec_module(goals)
+    text = "fn free() {\n    1\n}\n\nimpl<'a, T: Tree<'a>> Tree for Image<T> {\n    fn len(&self) -> usize {\n        0\n    }\n}\n"
+    lines = text.split("\n")
+    for at, wanted in ((1, ("free", "")), (6, ("len", "ImageTree")), (8, ("len", "ImageTree"))):
+        counts.equal(f"the function at line {at}", goals.names_of(lines, at), wanted)
+    counts.equal("no function", goals.names_of(["use x;"], 0), None)
 
 
 def main():
@@ -83,6 +95,7 @@ def main():
     if not missing("rt"):
         try_further_edits(counts)
         try_words(counts)
+        try_goals(counts)
         try_other_kit(counts)
         try_changed(counts)
     else:

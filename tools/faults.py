@@ -117,6 +117,12 @@ def rust_names(faults):
     return f"pub(crate) const FAULTS: [&str; {count}] = [\n{lines}];\n"
 
 
+def python_names(faults):
+    """Returns the names for the package for Python."""
+    lines = "".join(f'    {it.number}: "{it.name}",\n' for it in faults)
+    return f"FAULTS: Dict[int, str] = {{\n{lines}}}\n"
+
+
 def man_rows(faults):
     """Returns the rows of the man page. A line that begins with a dot or a quote would be a macro."""
     rows = ((it, "\\&" if it.sentence[0] in ".'" else "") for it in faults)
@@ -138,6 +144,7 @@ PARTS = (
     ("crates/sentences/specs/Faults.antt", r"(?<=^fault_sentence n =\n).*\Z", spec_sentences),
     ("include/romtool.h", marked("/*", " */"), c_names),
     ("bindings/rust/src/error.rs", marked("//"), rust_names),
+    ("bindings/python/romtool/_errors.py", marked("#"), python_names),
     ("docs/romtool.1", marked('.\\"'), man_rows),
 )
 

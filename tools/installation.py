@@ -13,8 +13,13 @@ TOP = kit.TOP
 PROGRAM = f"{TOP}/crates/romtool/out/romtool"
 LIBRARY = f"{TOP}/crates/rom_c/out/librom_c.a"
 # the pages of docs/ that users read
-GUIDES = ("C", "CLIENTS", "FAULTS", "LINES", "LINUX", "MANIFEST", "PROTOCOL")
+GUIDES = ("C", "CLIENTS", "FAULTS", "LINES", "LINUX", "MANIFEST", "PEERS", "PROTOCOL")
 DOCUMENTS = "share/doc/romtool"
+# the recipes for build systems, by their paths in recipes/ and under share/romtool
+RECIPES = {
+    **{f"cmake/{it}.cmake": f"cmake/{it}.cmake" for it in ("romtool-config", "romtool-config-version", "romtool-changes")},
+    "make/romtool.mk": "romtool.mk",
+}
 COMPLETIONS = {
     "bash": "share/bash-completion/completions/romtool",
     "zsh": "share/zsh/site-functions/_romtool",
@@ -30,7 +35,8 @@ Version: {version}
 Cflags: -I${{includedir}}
 Libs: -L${{libdir}} -lromtool
 """
-CMAKE = """# romtool: a proved reader of romfs and cramfs images. The target is romtool::romtool.
+CMAKE = """# romtool: a proved reader of romfs and cramfs images. The target is romtool::romtool. If the program is installed beside it,
+# there are also romtool::program and romtool_image.
 get_filename_component(_romtool_prefix "${CMAKE_CURRENT_LIST_DIR}/../../.." ABSOLUTE)
 if(NOT TARGET romtool::romtool)
     add_library(romtool::romtool STATIC IMPORTED)
@@ -39,6 +45,8 @@ if(NOT TARGET romtool::romtool)
         IMPORTED_LINK_INTERFACE_LANGUAGES C
         INTERFACE_INCLUDE_DIRECTORIES "${_romtool_prefix}/include")
 endif()
+include("${_romtool_prefix}/share/romtool/cmake/romtool-config.cmake" OPTIONAL)
+set(romtool_FOUND TRUE)
 unset(_romtool_prefix)
 """
 CMAKE_VERSION = """# Versions are semantic: one that is asked for is met by the same major version from there on.
@@ -140,17 +148,23 @@ def program_files(program):
         found[f"{DOCUMENTS}/{name}"] = (content(name), 0o644)
     for name in GUIDES:
         found[f"{DOCUMENTS}/docs/{name}.md"] = (content(f"docs/{name}.md"), 0o644)
+    for name, path in RECIPES.items():
+        found[f"share/romtool/{path}"] = (content(f"recipes/{name}"), 0o644)
     found[f"{DOCUMENTS}/LICENSES.txt"] = (licences(), 0o644)
     return found
 
 
+def library_version():
+    """Returns the file by which CMake learns the version of the library."""
+    return CMAKE_VERSION.format(version=version(), major=version().partition(".")[0])
+
+
 def library_files(archive):
     """Returns the files of the library for C, in the same form. None of them names the prefix, so it can be moved."""
-    major = version().partition(".")[0]
     texts = {
         "lib/pkgconfig/romtool.pc": PKG_CONFIG.format(version=version()),
         "lib/cmake/romtool/romtoolConfig.cmake": CMAKE,
-        "lib/cmake/romtool/romtoolConfigVersion.cmake": CMAKE_VERSION.format(version=version(), major=major),
+        "lib/cmake/romtool/romtoolConfigVersion.cmake": library_version(),
     }
     found = {path: (text.encode(), 0o644) for path, text in texts.items()}
     for header in ("romtool.h", "romtool_heap.h"):
