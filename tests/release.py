@@ -3,8 +3,9 @@
 
     release.py [--binary PATH] [--object FILE --library FILE]
 
-The release is made twice by tools/release and has the same bytes. Its packages are installed into an empty root, where the
-program runs as an ordinary user without any other file, on the first two commands of the README, and are removed again.
+The release is made twice by tools/release and has the same bytes. Its packages are installed into an empty root and are removed
+again. In this root romtool-static runs as an ordinary user without any other file, on the first two commands of the README. Under
+fakeroot the program of the package sees the owners and devices that fakeroot shows.
 A C program outside the tree is built over what the archive installs, by pkg-config and by CMake. tools/install and its
 --uninstall leave nothing. Completions offer what help lists. The version is the same in each place. With --object and
 --library a trial release is made of these. The last line is `N passed, M failed`, with `, K skipped` if a tool is missing.
@@ -42,6 +43,25 @@ FISH = (
     ("romtool build --n", ["--no-follow"]), ("romtool scan --for r", ["romfs"]), ("romtool scan --for romfs f", ["folder/"]),
     ("romtool scan --align 40", ["4096"]), ("romtool extract f", ["file", "folder/"]), ("romtool extract image f", ["folder/"]),
 )  # fmt: skip
+# what an ordinary user does under fakeroot with the program that is given, and what the list of the image is then
+FAKED = """set -e
+mkdir -p root/dev
+mknod root/dev/console c 5 1
+echo '#!/bin/sh' >root/init
+chown 5:6 root/init
+chmod 4755 root/init
+chmod 600 root/dev/console
+"$1" scan --all --for cramfs -o manifest root
+"$1" build cramfs manifest image >/dev/null
+"$1" extract --owners image out | sed 's, out/.*,,'
+stat -c '%a %u %g' out/init
+"""
+FAKED_LIST = """dir / 0755 0 0
+dir /dev 0755 0 0
+nod /dev/console 0600 0 0 c 5 1
+file /init 4755 5 6 4
+4755 5 6
+"""
 CMAKE = """cmake_minimum_required(VERSION 3.10)
 project(first C)
 find_package(romtool {version} REQUIRED)
@@ -147,6 +167,12 @@ def shells(binary, top, counts):
         counts.equal("fish: " + line, [it.partition("\t")[0] for it in said[1].splitlines()], wanted)
 
 
+def held(path):
+    """Returns the bytes of a file."""
+    with open(path, "rb") as it:
+        return it.read()
+
+
 def below(folder):
     """Returns the paths below a directory, in order; directories with a slash at the end."""
     found = []
@@ -186,11 +212,8 @@ def made_twice(given, top, counts):
     names = [sorted(os.listdir(it)) for it in folders]
     counts.equal("the files of two runs", names[0], names[1])
     for name in names[0]:
-        held = []
-        for it in folders:
-            with open(os.path.join(it, name), "rb") as file:
-                held.append(hashlib.sha256(file.read()).hexdigest())
-        counts.equal("%s of two runs" % name, held[0], held[1])
+        sums = [hashlib.sha256(held(os.path.join(it, name))).hexdigest() for it in folders]
+        counts.equal("%s of two runs" % name, sums[0], sums[1])
     return folders[0]
 
 
@@ -225,14 +248,15 @@ def dpkg(root, *words):
     return ["dpkg", "--root=" + root, "--log=/dev/null", "--force-depends", "--force-bad-path", *words]
 
 
-def packages(folder, top, counts):
+def packages(folder, static, top, counts):
     """The packages are installed into an empty root, the program runs there, and they are removed without a trace."""
     root = top + "/debian"
     debs = sorted(glob.glob(folder + "/*.deb"))
     if os.geteuid() or not shutil.which("dpkg"):
         for it in debs:
             works(counts, ["dpkg-deb", "-x", it, root])
-        as_a_stranger(root, counts)
+        under_fakeroot(root + "/usr/bin/romtool", top, counts)
+        as_a_stranger(root, static, counts)
         counts.skips("removing the packages: that needs root and dpkg")
         return
     for it in ("info", "updates", "triggers"):
@@ -240,7 +264,8 @@ def packages(folder, top, counts):
     with open(root + "/var/lib/dpkg/status", "w", encoding="utf-8"):
         pass
     works(counts, dpkg(root, "--install", *debs))
-    as_a_stranger(root, counts)
+    under_fakeroot(root + "/usr/bin/romtool", top, counts)
+    as_a_stranger(root, static, counts)
     works(counts, dpkg(root, "--purge", "romtool", "romtool-dev"))
     counts.equal("what the packages leave", [it for it in below(root) if not it.startswith("var/")], [])
 
@@ -251,8 +276,22 @@ def readme_commands():
     return [(shlex.split(words)[1:], to.strip() or None) for words, _, to in (it.partition(">") for it in shown)]
 
 
-def as_a_stranger(root, counts):
-    """Has an ordinary user run the program of a root on a directory of his own, by the README's first two commands. With root's
+def under_fakeroot(program, top, counts):
+    """Under fakeroot an ordinary user's devices, owners and modes are in the manifest and in the image, and are extracted again."""
+    if not shutil.which("fakeroot"):
+        counts.skips("fakeroot: it is not installed")
+        return
+    work = top + "/faked"
+    os.mkdir(work)
+    with open(work + "/script", "w", encoding="utf-8") as it:
+        it.write(FAKED)
+    os.chmod(work, 0o777)
+    how = {"cwd": work, "preexec_fn": become_nobody} if os.geteuid() == 0 else {"cwd": work}
+    counts.equal("under fakeroot", ran(["fakeroot", "sh", "script", program], **how), (0, FAKED_LIST))
+
+
+def as_a_stranger(root, static, counts):
+    """Has an ordinary user run this program in a root, on a directory of his own, by the README's first two commands. With root's
     rights nothing of this system is there: no other program, no library, no devices."""
     work = root + "/work"
     places = [work, work + "/app", work + "/app/bin", work + "/app/dev"]
@@ -264,11 +303,12 @@ def as_a_stranger(root, counts):
     os.chmod(work + "/app/bin/init", 0o755)
     for at in (root, *places):
         os.chmod(at, 0o755)
-    how, program = {"cwd": work}, root + "/usr/bin/romtool"
+    how, program = {"cwd": work}, static
     if os.geteuid() == 0:
         for at in (*places, work + "/app/bin/init"):
             os.chown(at, NOBODY, NOBODY)
-        how, program = {"cwd": work, "preexec_fn": lambda: enter(root)}, "/usr/bin/romtool"
+        shutil.copy(static, work + "/romtool-static")
+        how, program = {"cwd": work, "preexec_fn": lambda: enter(root)}, "/work/romtool-static"
     commands = [*readme_commands(), (["check", "app.cramfs"], None), (["cat", "app.cramfs", "/bin/init"], None)]
     counts.equal("the README's first two commands", [it[0][0] for it in commands[:2]], ["scan", "build"])
     said = []
@@ -385,14 +425,16 @@ def main():
         if why:
             counts.skips("the release: " + why)
         if folder:
-            contents(folder, counts)
-            packages(folder, top, counts)
-            lint(folder, counts)
-            name = "romtool-%s-x86_64-linux" % installation.version()
-            with tarfile.open("%s/%s.tar.gz" % (folder, name)) as archive:
+            prefix = "%s/unpacked/romtool-%s-x86_64-linux" % (top, installation.version())
+            with tarfile.open("%s/%s.tar.gz" % (folder, os.path.basename(prefix))) as archive:
                 archive.extractall(top + "/unpacked")
-            answers("%s/unpacked/%s/bin/romtool" % (top, name), counts)
-            for_c("%s/unpacked/%s" % (top, name), binary, top, counts)
+            contents(folder, counts)
+            packages(folder, prefix + "/bin/romtool-static", top, counts)
+            lint(folder, counts)
+            answers(prefix + "/bin/romtool-static", counts)
+            if not given:
+                counts.equal("the program of the release is the tested one", held(prefix + "/bin/romtool"), held(binary))
+            for_c(prefix, binary, top, counts)
     return counts.close()
 
 
