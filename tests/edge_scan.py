@@ -95,7 +95,7 @@ def named_calls(made):
         name = None
         if call.name in ("openat", "statx", "readlink"):
             name = name_in(call)
-            name = name.rstrip(b"/") or name
+            name = name.rstrip(b"/") or name or opened  # an open file's attributes are asked for without a name
             opened = name if call.name == "openat" else opened
         elif call.name in ("getdents64", "read"):
             name = opened
@@ -312,12 +312,14 @@ def looked(made, name):
 
 @needs_strace
 def changed_between_calls(binary):
-    """A directory that changed since it was found, and until it was looked into, is refused; otherwise it is old or new."""
+    """A directory that changed since it was found, and until it was looked into, is refused, and so is a file that changed until it was
+    looked at last; otherwise the manifest is old or new."""
     words = ["scan", "--all", "in"]
     lay_folder()
     made, _ = traced.calls(binary, *words)
     made = [call for call in made if call.name in NAMES][1:]
     own, above = looked(made, b"in/d"), looked(made, b"in")
+    last = max(at for name in (b"in/d/x", b"in/d/y", b"in/d/z") for at in looked(made, name))
     ends = collections.Counter()
     for what, change in {**inside(), **beside()}.items():
         places = own if what in inside() else own + above
@@ -331,8 +333,9 @@ def changed_between_calls(binary):
             refused = re.compile(rb"file in(/d(/[a-z]+)?)?\n")
             right = after if at < first else before if at >= seen else None
             out, said, status = held.answer or (None, b"", None)
-            ends["new" if at < first else "old" if at >= seen else "refused"] += 1
-            if right is None and (out, status) == (b"", 3) and refused.fullmatch(said):
+            is_refused = (out, status) == (b"", 3) and bool(refused.fullmatch(said))
+            ends["refused" if is_refused else "new" if at < first else "old"] += 1
+            if is_refused and first <= at < max(seen, last):
                 continue
             if not held.is_held or right is None or held.answer != (right, b"", 0):
                 yield "%s, behind %s: %r" % (what, call.text[:60], held.answer)

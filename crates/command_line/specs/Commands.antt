@@ -86,9 +86,9 @@ reading_shapes =
     ∷ flag_rule (codes "no-mmu") ∷ flag_rule (codes "advice") ∷ [])
     ∷ []
 
--- the others
-abbrev pub other_shapes : List Shape
-other_shapes =
+-- the subcommands that serve and build images
+abbrev pub building_shapes : List Shape
+building_shapes =
     sub (codes "serve") (value_rule (codes "image") ∷ [])
     ∷ sub (codes "space") (few_rule (codes "image") ∷ [])
     ∷ sub (codes "build") (value_rule (codes "format") ∷ value_rule (codes "manifest")
@@ -96,20 +96,33 @@ other_shapes =
     ∷ flag_rule (codes "xip") ∷ option_rule (codes "max-size")
     ∷ lettered_rule 67 (codes "directory")
     ∷ option_rule (codes "depfile") ∷ [])
-    ∷ sub (codes "scan") (several_rule (codes "folder") ∷ flag_rule (codes "all")
+    ∷ sub (codes "pack") (value_rule (codes "format") ∷ several_rule (codes "folder")
+    ∷ repeated_rule (codes "align") ∷ option_rule (codes "owner") ∷ flag_rule (codes "all-root")
+    ∷ repeated_rule (codes "exclude") ∷ option_rule (codes "volume")
+    ∷ option_rule (codes "devices") ∷ flag_rule (codes "one-file-system")
+    ∷ flag_rule (codes "strict") ∷ flag_rule (codes "xip") ∷ option_rule (codes "max-size")
+    ∷ option_rule (codes "depfile") ∷ option_rule (codes "manifest") ∷ flag_rule (codes "quiet")
+    ∷ [])
+    ∷ []
+
+-- the others
+abbrev pub other_shapes : List Shape
+other_shapes =
+    sub (codes "scan") (several_rule (codes "folder") ∷ flag_rule (codes "all")
     ∷ option_rule (codes "for") ∷ repeated_rule (codes "align") ∷ option_rule (codes "owner")
     ∷ flag_rule (codes "all-root") ∷ repeated_rule (codes "exclude")
     ∷ option_rule (codes "volume") ∷ option_rule (codes "devices")
     ∷ lettered_rule 111 (codes "output") ∷ flag_rule (codes "one-file-system")
     ∷ flag_rule (codes "strict") ∷ [])
     ∷ sub (codes "extract") (value_rule (codes "image") ∷ value_rule (codes "folder")
-    ∷ flag_rule (codes "owners") ∷ [])
+    ∷ flag_rule (codes "owners") ∷ flag_rule (codes "no-sync") ∷ [])
     ∷ sub (codes "version") ([])
     ∷ []
 
 -- the program
 abbrev pub romtool_app : App
-romtool_app = with_shapes (with_shapes romtool_top reading_shapes) other_shapes
+romtool_app =
+    with_shapes (with_shapes (with_shapes romtool_top reading_shapes) building_shapes) other_shapes
 
 -- a command of this shape
 abbrev pub IsShaped : Shape → Command → Type 0

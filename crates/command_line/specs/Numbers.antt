@@ -8,7 +8,7 @@ use Rattle.std.specs.Str.{bytes_eq}
 use Rattle.command_line.specs.declared.request.AlignRule.{AlignRule}
 use Rattle.command_line.specs.declared.request.Owner.{Owner}
 
--- the words of the alignments that a manifest may have
+-- the words of the alignments that a manifest may have, in bytes or in units of 1,024
 abbrev pub align_words : List (List ℕ × ℕ)
 align_words =
     (codes "4", 4) ∷ (codes "8", 8) ∷ (codes "16", 16) ∷ (codes "32", 32) ∷ (codes "64", 64)
@@ -16,7 +16,9 @@ align_words =
     ∷ (codes "256", 256) ∷ (codes "512", 512) ∷ (codes "1024", 1024) ∷ (codes "2048", 2048)
     ∷ (codes "4096", 4096)
     ∷ (codes "8192", 8192) ∷ (codes "16384", 16384) ∷ (codes "32768", 32768)
-    ∷ (codes "65536", 65536) ∷ []
+    ∷ (codes "65536", 65536)
+    ∷ (codes "4K", 4096) ∷ (codes "8K", 8192) ∷ (codes "16K", 16384) ∷ (codes "32K", 32768)
+    ∷ (codes "64K", 65536) ∷ []
 
 -- the alignment that a word names
 abbrev pub align_named : List ℕ → Option ℕ
@@ -45,8 +47,8 @@ pub data AreAddresses : List (List ℕ) → List ℕ → Type 0 where
   next_address : (ws : List (List ℕ)) (ns : List ℕ) (w : List ℕ) (n : ℕ) → AreAddresses ws ns
       → IsAddress w n → AreAddresses (ws ++ w ∷ []) (ns ++ n ∷ [])
 
--- a word is this number of bytes: hexadecimal digits after `0x`; or decimal digits, after which K
--- or M may be, for units of 1,024 and 1,048,576
+-- a word is this number of bytes: hexadecimal digits after `0x`; or decimal digits, after which K,
+-- M or G may be, for units of 2^10, 2^20 and 2^30
 pub data IsSize (word : List ℕ) (n : ℕ) : Type 0 where
   in_hexadecimal : starts_with (λ a b. a == b) word (codes "0x") ≡ true
       → IsNumber 16 (drop 2 word) n → IsSize word n
@@ -55,6 +57,8 @@ pub data IsSize (word : List ℕ) (n : ℕ) : Type 0 where
       → n ≡ k * 1024 → IsSize word n
   in_megabytes : (digits : List ℕ) (k : ℕ) → word ≡ digits ++ codes "M" → IsNumber 10 digits k
       → n ≡ k * 1048576 → IsSize word n
+  in_gigabytes : (digits : List ℕ) (k : ℕ) → word ≡ digits ++ codes "G" → IsNumber 10 digits k
+      → n ≡ k * 1073741824 → IsSize word n
 
 -- a word is this owner: the numbers of a user and a group in decimal digits, with a colon between
 -- them

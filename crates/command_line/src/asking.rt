@@ -4,15 +4,15 @@ ghost use Rattle.clap.specs.Words.{all_of, first_of, found_of, rows_of};
 ghost use Rattle.command_line.specs.Numbers.{AreAddresses, AreAligns, IsAddress, IsBaseOf};
 ghost use Rattle.formats.specs.Format.{name_of};
 ghost use Rattle.command_line.specs.Numbers.{IsOptional, IsSize, NotesAlign};
-ghost use Rattle.command_line.specs.Words.{AreTexts, HasNoValueForAll, IsAskedBy, IsFlag, IsForm};
-ghost use Rattle.command_line.specs.Words.{IsDirectory, IsOffsetOf, IsOwnerOf, IsPlainScan};
-ghost use Rattle.command_line.specs.Words.{texts_or_none, word_of};
+ghost use Rattle.command_line.specs.Words.{ArePlaces, AreTexts, HasNoValueForAll, IsAskedBy, IsFlag};
+ghost use Rattle.command_line.specs.Words.{IsDirectory, IsForm, IsOffsetOf, IsOwnerOf, IsPlainScan};
+ghost use Rattle.command_line.specs.Words.{IsPackedBuild, IsPackedScan, texts_or_none, word_of};
 ghost use Rattle.command_line.specs.declared.request.Request.TheVariants as request;
 
 use crate::error::{WordsError, Wrong};
 use crate::numbers::{address_named, align_named, align_rule_named, owner_named, size_named};
 use crate::request::{
-    AlignRule, Build, Cat, Diff, Digest, Extract, Info, Map, MapForm, Owner, Request, Scan,
+    AlignRule, Build, Cat, Diff, Digest, Extract, Info, Map, MapForm, Owner, Pack, Request, Scan,
     ScanAll, Verify, Which, Xip,
 };
 use arrayvec::ArrayVec;
@@ -22,6 +22,9 @@ use std::alloc::{AllocError, Global};
 
 /// The alignment of regular files without an option, in bytes.
 const USUAL_ALIGN: u32 = 4;
+
+/// The manifest of a build that is not in a file.
+const NO_FILE: &str = "-";
 
 /// Returns the value of a name, if it has one.
 fn value_of<'a>(values: &ArgMatches<'a>, name: &str) -> Option<&'a str>
@@ -376,6 +379,91 @@ fn scan_all_of<'a>(alloc: Global, values: &ArgMatches<'a>) -> Result<ScanAll<'a>
     })
 }
 
+/// The directories that are packed, and the file of the image.
+#[derive(Drop)]
+struct Places<'a> {
+    directories: Vec<&'a str>,
+    out: &'a str,
+}
+
+/// Returns the directories that are packed, and the file of the image, which follows them.
+fn places_of<'a>(alloc: Global, values: &ArgMatches<'a>) -> Result<Places<'a>, WordsError<'a>>
+    ensures { IfOk result (λ p. ArePlaces (rows_of (found_of values.now)) p.directories.items p.out) }
+{
+    let mut directories = texts_of(alloc, values, "folder")?;
+    match directories.pop() {
+        Some(out) if !directories.is_empty() => Ok(Places { directories, out }),
+        _ => Err(Wrong::NoOut.into()),
+    }
+}
+
+/// Returns the build of a packed image.
+fn packed_build<'a>(
+    values: &ArgMatches<'a>,
+    format: Format,
+    out: &'a str,
+) -> Result<Build<'a>, WordsError<'a>>
+    ensures { IfOk result (λ b. (b.format ≡ format) × (b.out ≡ out)
+        × IsPackedBuild (rows_of (found_of values.now)) b) }
+{
+    let max_size = size_of(values, "max-size")?;
+    Ok(Build {
+        format,
+        manifest: NO_FILE,
+        out,
+        no_follow: true,
+        strict: is_given(values, "strict"),
+        xip: is_given(values, "xip"),
+        max_size,
+        sources: None,
+        depfile: value_of(values, "depfile"),
+    })
+}
+
+/// Returns the scan of a packed image.
+fn packed_scan<'a>(
+    alloc: Global,
+    values: &ArgMatches<'a>,
+    format: Format,
+    directories: Vec<&'a str>,
+) -> Result<ScanAll<'a>, WordsError<'a>>
+    ensures { IfOk result (λ s. (s.format ≡ Some format) × (s.directories ≡ directories)
+        × IsPackedScan (rows_of (found_of values.now)) s) }
+{
+    let excludes = texts_of(alloc, values, "exclude")?;
+    let aligns = aligns_of(alloc, values)?;
+    let owner = wished_owner(values)?;
+    Ok(ScanAll {
+        directories,
+        format: Some(format),
+        align: aligns.usual,
+        aligns: aligns.rules,
+        owner,
+        excludes,
+        volume: value_of(values, "volume"),
+        devices: value_of(values, "devices"),
+        output: value_of(values, "manifest"),
+        one_file_system: is_given(values, "one-file-system"),
+        strict: is_given(values, "strict"),
+    })
+}
+
+/// Returns the packing that is asked for.
+fn pack_of<'a>(alloc: Global, values: &ArgMatches<'a>) -> Result<Pack<'a>, WordsError<'a>>
+    ensures { IfOk result (λ p. IsAskedBy (rows_of (found_of values.now)) (request.Pack p)) }
+{
+    let format = format(wanted(values, "format")?)?;
+    let Places { directories, out } = places_of(alloc, values)?;
+    let build = packed_build(values, format, out)?;
+    let scan = packed_scan(alloc, values, format, directories)?;
+    let is_quiet = is_given(values, "quiet");
+    Ok(Pack {
+        scan,
+        build,
+        is_quiet,
+    })
+}
+
 /// Returns the name of an option with a value that is given and is only allowed with `--all`.
 fn value_with_all(values: &ArgMatches<'_>) -> Option<&'static str>
     ensures { IfNone result (HasNoValueForAll (rows_of (found_of values.now))) }
@@ -448,10 +536,12 @@ fn extract_of<'a>(values: &ArgMatches<'a>) -> Result<Extract<'a>, WordsError<'a>
     let image = wanted(values, "image")?;
     let directory = wanted(values, "folder")?;
     let owners = is_given(values, "owners");
+    let no_sync = is_given(values, "no-sync");
     Ok(Extract {
         image,
         directory,
         owners,
+        no_sync,
     })
 }
 
@@ -516,6 +606,7 @@ pub fn asked<'a>(
         "serve" => Ok(Request::Serve(wanted(values, "image")?)),
         "space" => Ok(Request::Space(images_of(values)?)),
         "build" => Ok(Request::Build(build_of(values)?)),
+        "pack" => Ok(Request::Pack(pack_of(alloc, values)?)),
         "scan" => either_scan(alloc, values),
         "extract" => Ok(Request::Extract(extract_of(values)?)),
         _ => Err(Wrong::NoSubcommand.into()),

@@ -2,10 +2,10 @@
 ghost use Rattle.std.specs.Prelude.{◌≡◌, IfOk, false, map};
 ghost use Rattle.clap.specs.Words.{app_of, rule_of, shape_of};
 ghost use Rattle.command_line.specs.Commands.{IsShaped, flag_rule, romtool_app, romtool_top};
-ghost use Rattle.command_line.specs.Commands.{other_shapes, with_rules, with_shapes};
+ghost use Rattle.command_line.specs.Commands.{building_shapes, other_shapes, with_rules, with_shapes};
 ghost use Rattle.command_line.specs.Table.{rule_named, shape_named};
 
-use crate::table::{EXPLAIN, Kind, OTHERS, READING, Subcommand, Word};
+use crate::table::{BUILDING, EXPLAIN, Kind, OTHERS, READING, Subcommand, Word};
 use clap::{Arg, ArgAction, Command};
 use std::alloc::{AllocError, Global};
 
@@ -96,7 +96,14 @@ fn top<'a>(alloc: Global) -> Result<Command<'a>, AllocError>
     command.arg(argument(alloc, EXPLAIN))
 }
 
-/// Adds the subcommands that do not only read images.
+/// Adds the subcommands that serve and build images.
+fn with_building<'a>(alloc: Global, command: Command<'a>) -> Result<Command<'a>, AllocError>
+    ensures { IfOk result (λ c. app_of c ≡ with_shapes (app_of command.entry) building_shapes) }
+{
+    with_subcommands(alloc, command, &BUILDING)
+}
+
+/// Adds the other subcommands.
 fn with_others<'a>(alloc: Global, command: Command<'a>) -> Result<Command<'a>, AllocError>
     ensures { IfOk result (λ c. app_of c ≡ with_shapes (app_of command.entry) other_shapes) }
 {
@@ -107,5 +114,6 @@ fn with_others<'a>(alloc: Global, command: Command<'a>) -> Result<Command<'a>, A
 pub fn command<'a>(alloc: Global) -> Result<Command<'a>, AllocError>
     ensures { IfOk result (λ c. app_of c ≡ romtool_app) }
 {
-    with_others(alloc, with_subcommands(alloc, top(alloc)?, &READING)?)
+    let reading = with_subcommands(alloc, top(alloc)?, &READING)?;
+    with_others(alloc, with_building(alloc, reading)?)
 }

@@ -34,6 +34,8 @@ pub enum Wrong<'a> {
     NoDirectory,
     /// A strict scan has no format.
     StrictWithoutFormat,
+    /// Only one name follows the format of a packed image.
+    NoOut,
 }
 
 /// Why words ask for nothing. It is shown to people; if clap refused the words, in clap's text.
@@ -56,7 +58,10 @@ impl Display for Wrong<'_> {
                 write!(f, "FORMAT is romfs, cramfs or cramfs-be, and not {word:?}")
             }
             Wrong::Align(word) => {
-                write!(f, "N is a power of two from 4 to 65536, and not {word:?}")
+                write!(
+                    f,
+                    "N is a power of two from 4 to 65536, such as 4096 or 4K, and not {word:?}"
+                )
             }
             Wrong::Address(word) => {
                 write!(
@@ -67,7 +72,7 @@ impl Display for Wrong<'_> {
             Wrong::Size(word) => {
                 write!(
                     f,
-                    "N is a number of bytes, such as 4096, 64K, 2M or 0x10000, and not {word:?}"
+                    "N is a number of bytes, such as 4096, 64K, 2M, 1G or 0x10000, and not {word:?}"
                 )
             }
             Wrong::Owner(word) => {
@@ -84,6 +89,7 @@ impl Display for Wrong<'_> {
             Wrong::Owners => write!(f, "'--owner' and '--all-root' do not go together"),
             Wrong::NoDirectory => write!(f, "DIR is empty; '.' is the current directory"),
             Wrong::StrictWithoutFormat => write!(f, "'--strict' goes with '--for' only"),
+            Wrong::NoOut => write!(f, "OUT is missing: pack FORMAT DIR.. OUT"),
         }
     }
 }

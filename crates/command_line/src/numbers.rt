@@ -6,7 +6,8 @@ ghost use Rattle.command_line.specs.Numbers.{align_named};
 use crate::request::{AlignRule, Owner};
 use memchr::{memchr, memrchr};
 
-/// Returns the alignment that bytes name: a power of two that a manifest may have.
+/// Returns the alignment that bytes name: a power of two that a manifest may have, in bytes or in
+/// units of 1,024.
 pub fn align_named(word: &[u8]) -> Option<u32>
     ensures { result ≡ align_named word.now }
 {
@@ -26,6 +27,11 @@ pub fn align_named(word: &[u8]) -> Option<u32>
         b"16384" => Some(16384),
         b"32768" => Some(32768),
         b"65536" => Some(65536),
+        b"4K" => Some(4096),
+        b"8K" => Some(8192),
+        b"16K" => Some(16384),
+        b"32K" => Some(32768),
+        b"64K" => Some(65536),
         _ => None,
     }
 }
@@ -72,12 +78,13 @@ fn scaled(word: &[u8]) -> Option<u64>
     match word.split_last() {
         Some((b'K', digits)) => number(10, digits)?.checked_mul(1024),
         Some((b'M', digits)) => number(10, digits)?.checked_mul(1048576),
+        Some((b'G', digits)) => number(10, digits)?.checked_mul(1073741824),
         _ => None,
     }
 }
 
-/// Returns the number of bytes that a word names: decimal digits, with K or M after them for units
-/// of 1,024 and 1,048,576, or hexadecimal digits after `0x`.
+/// Returns the number of bytes that a word names: decimal digits, with K, M or G after them for
+/// units of 2^10, 2^20 and 2^30, or hexadecimal digits after `0x`.
 pub fn size_named(word: &str) -> Option<u64>
     ensures { IfSome result (IsSize word.now) }
 {

@@ -37,6 +37,8 @@ pub enum Request<'a> {
     Space(ArrayVec<&'a str, 8>),
     /// To build an image.
     Build(Build<'a>),
+    /// To scan directories, and to build the image of what is found.
+    Pack(Pack<'a>),
     /// To print a manifest of the names and the contents below a directory.
     Scan(Scan<'a>),
     /// To print a manifest of directories as they are.
@@ -181,6 +183,17 @@ pub struct ScanAll<'a> {
     pub strict: bool,
 }
 
+/// A scan of directories as they are, and the build of the image of what is found.
+#[derive(Drop)]
+pub struct Pack<'a> {
+    /// The scan. Its output is the file in which the manifest is kept, if one is given.
+    pub scan: ScanAll<'a>,
+    /// The build. Its manifest is not in a file.
+    pub build: Build<'a>,
+    /// Whether no words are written on standard error.
+    pub is_quiet: bool,
+}
+
 /// The alignment of the regular files whose paths match a pattern.
 #[derive(Clone, Copy)]
 pub struct AlignRule<'a> {
@@ -202,4 +215,6 @@ pub struct Extract<'a> {
     pub directory: &'a str,
     /// Whether the files get the owners and all bits of the modes that the image has.
     pub owners: bool,
+    /// Whether the program does not wait until the disk has the files.
+    pub no_sync: bool,
 }

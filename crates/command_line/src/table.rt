@@ -56,7 +56,7 @@ const SIZE: Word<'static> = Word {
     kind: Kind::Option,
     name: "size",
     shown: "N",
-    help: "Reports whether the image fits into N bytes, such as 64K, 2M or 0x10000, and how many are left",
+    help: "Reports whether the image fits into N bytes, such as 64K, 2M, 1G or 0x10000, and how many are left",
 };
 
 const BASE: Word<'static> = Word {
@@ -224,7 +224,7 @@ const MAX_SIZE: Word<'static> = Word {
     kind: Kind::Option,
     name: "max-size",
     shown: "N",
-    help: "Refuses an image of more than N bytes, such as 64K, 2M or 0x10000",
+    help: "Refuses an image of more than N bytes, such as 64K, 2M, 1G or 0x10000",
 };
 
 const DIRECTORY: Word<'static> = Word {
@@ -266,7 +266,7 @@ const ALIGN: Word<'static> = Word {
     kind: Kind::Repeated,
     name: "align",
     shown: "[GLOB=]N",
-    help: "With --all: the alignment (4 to 65536) of files that match GLOB; without GLOB, of programs and libraries",
+    help: "With --all: the alignment (4 to 64K) of files that match GLOB; without GLOB, of programs and libraries",
 };
 
 const OWNER: Word<'static> = Word {
@@ -325,6 +325,76 @@ const STRICT_SCAN: Word<'static> = Word {
     help: "With --all: refuses the scan if --for would change attributes",
 };
 
+const PACKED: Word<'static> = Word {
+    kind: Kind::Several,
+    name: "folder",
+    shown: "DIR.. OUT",
+    help: "The directories, and the file of the image, which is replaced as a whole",
+};
+
+const ALIGN_PACKED: Word<'static> = Word {
+    kind: Kind::Repeated,
+    name: "align",
+    shown: "[GLOB=]N",
+    help: "The alignment (4 to 64K) of files that match GLOB; without GLOB, of programs and libraries",
+};
+
+const OWNER_PACKED: Word<'static> = Word {
+    kind: Kind::Option,
+    name: "owner",
+    shown: "UID:GID",
+    help: "The owner and the group of all files",
+};
+
+const ROOT_PACKED: Word<'static> = Word {
+    kind: Kind::Flag,
+    name: "all-root",
+    shown: "",
+    help: "The same as --owner 0:0",
+};
+
+const EXCLUDE_PACKED: Word<'static> = Word {
+    kind: Kind::Repeated,
+    name: "exclude",
+    shown: "GLOB",
+    help: "Excludes the paths below DIR that match",
+};
+
+const VOLUME_PACKED: Word<'static> = Word {
+    kind: Kind::Option,
+    name: "volume",
+    shown: "NAME",
+    help: "The name of the volume",
+};
+
+const DEVICES_PACKED: Word<'static> = Word {
+    kind: Kind::Option,
+    name: "devices",
+    shown: "FILE",
+    help: "Adds the devices and other special lines of a manifest",
+};
+
+const STRICT_PACK: Word<'static> = Word {
+    kind: Kind::Flag,
+    name: "strict",
+    shown: "",
+    help: "Refuses what FORMAT cannot hold unchanged, and what Linux would misread",
+};
+
+const KEPT: Word<'static> = Word {
+    kind: Kind::Option,
+    name: "manifest",
+    shown: "FILE",
+    help: "Writes the manifest to FILE, also if the build is refused then",
+};
+
+const QUIET: Word<'static> = Word {
+    kind: Kind::Flag,
+    name: "quiet",
+    shown: "",
+    help: "Writes no words on standard error",
+};
+
 const INTO: Word<'static> = Word {
     kind: Kind::Value,
     name: "folder",
@@ -339,8 +409,15 @@ const OWNERS: Word<'static> = Word {
     help: "Sets owners and all bits of modes; otherwise, set-user and set-group bits are left out",
 };
 
-/// The subcommands that read one image or two, in the order in which help shows them. (One table of
-/// all subcommands takes the prover twice as long as two tables.)
+const NO_SYNC: Word<'static> = Word {
+    kind: Kind::Flag,
+    name: "no-sync",
+    shown: "",
+    help: "Does not wait until the disk has the files, which is faster",
+};
+
+/// The subcommands that read one image or two. Help shows them first, then those of the next tables.
+/// (One table of all subcommands takes the prover much longer than several.)
 pub const READING: [Subcommand<'static>; 11] = [
     Subcommand {
         name: "check",
@@ -399,8 +476,8 @@ pub const READING: [Subcommand<'static>; 11] = [
     },
 ];
 
-/// The other subcommands, in the order in which help shows them.
-pub const OTHERS: [Subcommand<'static>; 6] = [
+/// The subcommands that serve and build images.
+pub const BUILDING: [Subcommand<'static>; 4] = [
     Subcommand {
         name: "serve",
         about: "Answers requests on standard input about the files of an image",
@@ -427,6 +504,31 @@ pub const OTHERS: [Subcommand<'static>; 6] = [
         ],
     },
     Subcommand {
+        name: "pack",
+        about: "Builds the image of directories as they are: scan --all and build in one step",
+        words: &[
+            FORMAT,
+            PACKED,
+            ALIGN_PACKED,
+            OWNER_PACKED,
+            ROOT_PACKED,
+            EXCLUDE_PACKED,
+            VOLUME_PACKED,
+            DEVICES_PACKED,
+            ONE_FILE_SYSTEM,
+            STRICT_PACK,
+            XIP_BUILD,
+            MAX_SIZE,
+            DEPFILE,
+            KEPT,
+            QUIET,
+        ],
+    },
+];
+
+/// The other subcommands.
+pub const OTHERS: [Subcommand<'static>; 3] = [
+    Subcommand {
         name: "scan",
         about: "Prints a manifest of a directory",
         words: &[
@@ -447,7 +549,7 @@ pub const OTHERS: [Subcommand<'static>; 6] = [
     Subcommand {
         name: "extract",
         about: "Writes the files of an image into a directory, and prints its manifest",
-        words: &[IMAGE, INTO, OWNERS],
+        words: &[IMAGE, INTO, OWNERS, NO_SYNC],
     },
     Subcommand {
         name: "version",

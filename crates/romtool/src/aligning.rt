@@ -1,14 +1,16 @@
 //! The alignments of the scanned files.
 use crate::patterns::Patterns;
 use crate::reporter::Reporter;
+use crate::stamp::Identity;
 use build_commands::elf::{HEAD_LEN, needs_pages};
 use build_commands::inventory::{FileKind, NamedFile, align_of};
 use program_streams::read_until;
 use rom_commands::{Ending, Status};
 use rom_fields::OutOfMemory;
+use sentences::reasons::REPLACED;
 use std::alloc::Global;
 use std::collections::BTreeMap;
-use std::fs::{File, OpenFile};
+use std::fs::{self, File, Metadata, OpenFile};
 use std::io;
 
 /// The number of bytes at the front of a file that show its format.
@@ -17,10 +19,26 @@ const FORMAT_LEN: u64 = 4;
 /// Alignments of files, by their devices and numbers.
 type Largest = BTreeMap<(u64, u64), u32>;
 
-/// Whether the file of this name is a program or a library that needs pages of its own to be
+/// Opens a regular file that was found. Another file that has its name now is not opened, since
+/// opening a FIFO waits for its writer.
+fn open_found(rt: &HostRuntime, found: &NamedFile) -> io::Result<File> {
+    let is_found = |now: &Metadata| {
+        let inode = &found.inode;
+        now.is_file() && Identity::of(now) == Identity::at(inode.device, inode.number)
+    };
+    if is_found(&fs::symlink_metadata(rt, &found.place)?) {
+        let file = File::open(rt, &found.place)?;
+        if is_found(&file.metadata()?) {
+            return Ok(file);
+        }
+    }
+    Err(io::Error::new(io::ErrorKind::NotFound, REPLACED))
+}
+
+/// Whether a file that was found is a program or a library that needs pages of its own to be
 /// executed in place. Of a file in another format only the first bytes are read.
-fn needs_pages_at(rt: &HostRuntime, name: &str) -> io::Result<bool> {
-    let mut file = File::open(rt, name)?;
+fn needs_pages_at(rt: &HostRuntime, found: &NamedFile) -> io::Result<bool> {
+    let mut file = open_found(rt, found)?;
     let mut bytes = Vec::new(rt.alloc());
     read_until(&mut file, &mut bytes, FORMAT_LEN, FORMAT_LEN)?;
     if bytes.as_slice() == b"\x7fELF".as_slice() {
@@ -42,7 +60,7 @@ fn align_at(
         return Ok(align);
     }
     let is_asked = align != align_of(false, align);
-    Ok(align_of(is_asked && needs_pages_at(rt, &file.place)?, align))
+    Ok(align_of(is_asked && needs_pages_at(rt, file)?, align))
 }
 
 /// The largest alignment of each file with several links, by its device and number.

@@ -16,10 +16,11 @@ use crate::origin::Origin;
 use crate::progress::Progress;
 use crate::reading::TextFile;
 use crate::reporter::Reporter;
+use crate::scan_all::ScannedText;
 use crate::sources::{joined_names, names_of, sizes_of, stamps_of, texts_of};
 use crate::stamp::{Identity, Stamp, has_changed, let_rest};
 use crate::target::{FillError, Target};
-use crate::{bad_lines, depfile, explained, own_output, reading, warned};
+use crate::{bad_lines, contents, depfile, explained, own_output, reading, warned};
 use build_commands::{
     print_bad_manifest, print_built, print_misfit, print_size, print_strict, print_xip,
 };
@@ -267,7 +268,7 @@ fn target_of(
 fn rule_of(
     reporter: &Reporter<'_>,
     asked: Build<'_>,
-    names: &[&str],
+    files: Files<'_>,
     inputs: Inputs<'_>,
     image: &Target,
 ) -> Result<Option<Target>, Status> {
@@ -283,7 +284,7 @@ fn rule_of(
         Ok(target) => Ok(Some(depfile::written(
             reporter,
             name,
-            rule(asked, names),
+            rule(asked, files),
             target,
             image,
         )?)),
@@ -292,7 +293,7 @@ fn rule_of(
 }
 
 /// The rule of a build.
-fn rule<'a>(asked: Build<'a>, names: &'a [&'a str]) -> Rule<'a> {
+fn rule<'a>(asked: Build<'a>, files: Files<'a>) -> Rule<'a> {
     Rule {
         out: asked.out,
         manifest: if asked.manifest == INPUT {
@@ -300,7 +301,8 @@ fn rule<'a>(asked: Build<'a>, names: &'a [&'a str]) -> Rule<'a> {
         } else {
             Some(asked.manifest)
         },
-        sources: names,
+        sources: files.names,
+        directories: files.origin.directories,
     }
 }
 
@@ -511,10 +513,10 @@ fn write_files(
         stamps: files.stamps,
     };
     if let Some(name) = asked.depfile {
-        depfile::check(reporter, name, rule(asked, files.names))?;
+        depfile::check(reporter, name, rule(asked, files))?;
     }
     let target = target_of(reporter, asked, inputs)?;
-    let rule = match rule_of(reporter, asked, files.names, inputs, &target) {
+    let rule = match rule_of(reporter, asked, files, inputs, &target) {
         Ok(rule) => rule,
         Err(status) => {
             target.abandon(reporter.rt);
@@ -532,6 +534,14 @@ fn write_files(
     }
 }
 
+/// An image that was built: the status, and the numbers of bytes of the image and of each source.
+#[derive(Drop)]
+struct Built {
+    status: Status,
+    len: u64,
+    sizes: Vec<u64>,
+}
+
 /// Builds the image of a manifest, whose text is in this file, and whose sources have these names.
 fn build_from(
     reporter: &Reporter<'_>,
@@ -539,7 +549,7 @@ fn build_from(
     origin: Origin<'_>,
     names: &[&str],
     manifest: TextFile,
-) -> Result<Status, Status>
+) -> Result<Built, Status>
     requires { map (λ n. n.now) names.now ≡ opened_as (option_map (λ d. d.now) asked.sources)
         (sources_of origin.manifest.now.lines) }
 {
@@ -556,9 +566,10 @@ fn build_from(
     };
     check_programs(reporter, asked, &plan, files)?;
     write_files(reporter, asked, &plan, files)?;
-    let status = say_built(reporter, plan.image_len() as u64);
+    let len = plan.image_len() as u64;
+    let status = say_built(reporter, len);
     warned::explain(reporter, origin, &warnings, "warning: ");
-    Ok(status)
+    Ok(Built { status, len, sizes })
 }
 
 /// Reports that an image of this number of bytes was built.
@@ -576,7 +587,7 @@ fn build_plain<'a>(
     asked: Build<'a>,
     manifest: &'a Manifest,
     file: TextFile,
-) -> Result<Status, Status>
+) -> Result<Built, Status>
     requires { asked.sources ≡ None }
 {
     let origin = Origin {
@@ -584,6 +595,7 @@ fn build_plain<'a>(
         manifest,
         joined: None,
         no_follow: asked.no_follow,
+        directories: &[],
     };
     let names = names_of(reporter, origin, manifest.sources())?;
     build_from(reporter, asked, origin, &names, file)
@@ -596,7 +608,7 @@ fn build_joined<'a>(
     joined: &'a [Vec<u8>],
     manifest: &'a Manifest,
     file: TextFile,
-) -> Result<Status, Status>
+) -> Result<Built, Status>
     requires { map (λ j. j.items) joined.now ≡ opened_as (option_map (λ d. d.now) asked.sources)
         (sources_of manifest.now.lines) }
 {
@@ -606,6 +618,7 @@ fn build_joined<'a>(
         manifest,
         joined: given,
         no_follow: asked.no_follow,
+        directories: &[],
     };
     let names = texts_of(reporter, origin, joined)?;
     build_from(reporter, asked, origin, &names, file)
@@ -618,7 +631,7 @@ fn build_in(
     directory: &str,
     manifest: &Manifest,
     file: TextFile,
-) -> Result<Status, Status>
+) -> Result<Built, Status>
     requires { option_map (λ d. d.now) asked.sources ≡ Some directory.now }
 {
     let joined = joined_names(reporter, directory, manifest.sources())?;
@@ -629,10 +642,41 @@ fn build_in(
 fn build(reporter: &Reporter<'_>, asked: Build<'_>) -> Result<Status, Status> {
     let text = text_of(reporter, asked.manifest)?;
     let manifest = manifest_of(reporter, asked.manifest, &text.bytes)?;
-    match asked.sources {
-        None => build_plain(reporter, asked, &manifest, text.file),
-        Some(directory) => build_in(reporter, asked, directory, &manifest, text.file),
-    }
+    let built = match asked.sources {
+        None => build_plain(reporter, asked, &manifest, text.file)?,
+        Some(directory) => build_in(reporter, asked, directory, &manifest, text.file)?,
+    };
+    Ok(built.status)
+}
+
+/// Builds the image of directories that were scanned, and reports the result and what the image has
+/// in it. The manifest's text may also be in this file. Returns the status.
+pub fn build_scanned(
+    reporter: &Reporter<'_>,
+    asked: Build<'_>,
+    scanned: &ScannedText,
+    file: Option<Identity>,
+) -> Result<Status, Status> {
+    let asked = Build {
+        sources: None,
+        ..asked
+    };
+    let manifest = manifest_of(reporter, asked.manifest, &scanned.text)?;
+    let origin = Origin {
+        name: asked.manifest,
+        manifest: &manifest,
+        joined: None,
+        no_follow: true,
+        directories: &scanned.directories,
+    };
+    let text = TextFile {
+        identity: file,
+        stamp: None,
+    };
+    let names = names_of(reporter, origin, manifest.sources())?;
+    let built = build_from(reporter, asked, origin, &names, text)?;
+    contents::explain(reporter, asked, &manifest, (built.len, &built.sizes));
+    Ok(built.status)
 }
 
 /// Builds what is asked for, reports the result, and returns the status.

@@ -100,6 +100,13 @@ fn add_name(text: &mut Vec<u8>, name: &str, place: Place) -> Result<(), AllocErr
     Ok(())
 }
 
+/// Adds a rule without prerequisites.
+fn add_empty_rule(text: &mut Vec<u8>, name: &str) -> Result<(), AllocError> {
+    text.push(b'\n')?;
+    add_name(text, name, Place::Target)?;
+    text.extend_from_slice(b":\n")
+}
+
 /// An image, and the files that it depends on.
 #[derive(Clone, Copy)]
 pub struct Rule<'a> {
@@ -107,13 +114,17 @@ pub struct Rule<'a> {
     /// The manifest's file, if it has one.
     pub manifest: Option<&'a str>,
     pub sources: &'a [&'a str],
+    /// The directories in which the sources were found, if they were scanned.
+    pub directories: &'a [String],
 }
 
 impl Rule<'_> {
     /// Returns whether make has a spelling of each name.
     pub fn is_sayable(&self) -> bool {
         let mut names = self.manifest.iter().chain(self.sources);
-        is_name_sayable(self.out) && names.all(|name| is_name_sayable(name))
+        is_name_sayable(self.out)
+            && names.all(|name| is_name_sayable(name))
+            && self.directories.iter().all(|name| is_name_sayable(name))
     }
 
     /// The text of the rules.
@@ -125,17 +136,22 @@ impl Rule<'_> {
             text.extend_from_slice(BETWEEN)?;
             add_name(&mut text, name, Place::Prerequisite)?;
         }
+        for name in self.directories {
+            text.extend_from_slice(BETWEEN)?;
+            add_name(&mut text, name, Place::Prerequisite)?;
+        }
         text.push(b'\n')?;
         self.add_sources(&mut text)?;
         Ok(text)
     }
 
-    /// Adds a rule without prerequisites for each source.
+    /// Adds a rule without prerequisites for each source and each directory.
     fn add_sources(&self, text: &mut Vec<u8>) -> Result<(), AllocError> {
         for name in self.sources {
-            text.push(b'\n')?;
-            add_name(text, name, Place::Target)?;
-            text.extend_from_slice(b":\n")?;
+            add_empty_rule(text, name)?;
+        }
+        for name in self.directories {
+            add_empty_rule(text, name)?;
         }
         Ok(())
     }

@@ -6,7 +6,7 @@ ghost use Rattle.image_manifest.specs.Describable.{IsLawfulTree};
 
 use crate::directories::base;
 use crate::extraction::System;
-use crate::making::Top;
+use crate::making::{Syncing, Top};
 use crate::members::Extraction;
 use crate::reporter::Reporter;
 use crate::totals::is_many_times;
@@ -84,7 +84,7 @@ impl Extraction<'_> {
         Ok(())
     }
 
-    /// Fills the open directory of this name, and syncs it to the disk.
+    /// Fills the open directory of this name, and syncs it to the disk if that is asked for.
     fn fill(&self, directory: &str, top: Top, counts: &mut Counts) -> Result<(), Status>
         requires { IsLawfulTree (any_view self.now.tree.now.image.now).tree }
     {
@@ -95,7 +95,7 @@ impl Extraction<'_> {
         }
         counts.further = system.further;
         counts.copies = system.copies;
-        match top.end(self.tree.rights(0)) {
+        match top.end(self.tree.rights(0), self.syncing) {
             Ok(()) => Ok(()),
             Err(e) => Err(self.reporter.refused(directory.as_bytes(), &e)),
         }
@@ -215,6 +215,11 @@ fn take_apart<'a>(
         reporter,
         tree,
         directory,
+        syncing: if asked.no_sync {
+            Syncing::Unsynced
+        } else {
+            Syncing::Synced
+        },
     };
     match extraction.run(asked.directory) {
         Ok(counts) => {

@@ -105,7 +105,12 @@ impl Directory for System<'_> {
             return Err(e);
         }
         let rights = self.extraction.tree.rights(index);
-        let finished = finish_file(self.extraction.reporter.rt, file.into_inner(), rights);
+        let finished = finish_file(
+            self.extraction.reporter.rt,
+            file.into_inner(),
+            rights,
+            self.extraction.syncing,
+        );
         self.account
             .answer(Asked::FinishFile(rights), index, finished)
     }
@@ -144,7 +149,12 @@ impl Directory for System<'_> {
     fn set_rights(&mut self, index: usize) -> io::Result<()> {
         let place = self.place(index)?;
         let rights = self.extraction.tree.rights(index);
-        let set = set_directory(self.extraction.reporter.rt, &place, rights);
+        let set = set_directory(
+            self.extraction.reporter.rt,
+            &place,
+            rights,
+            self.extraction.syncing,
+        );
         self.account.answer(Asked::SetRights(rights), index, set)
     }
 }

@@ -3,12 +3,12 @@ use crate::directories::{all_stayed, base};
 use crate::lister::{self, Survey};
 use crate::patterns::Patterns;
 use crate::reporter::Reporter;
-use crate::stamp::Stamp;
+use crate::stamp::{Stamp, let_rest};
 use build_commands::inventory::{Device, FileKind, Inode, NamedFile};
 use command_line::ScanAll;
 use directory_walk::{Directory, Entry};
 use rom_commands::{Ending, Status};
-use sentences::reasons::NO_KIND;
+use sentences::reasons::{FOLDER_CHANGED, NO_KIND};
 use std::alloc::{AllocError, Global};
 use std::fs::{self, Metadata};
 use std::io;
@@ -61,6 +61,8 @@ struct Reported {
     gid: u32,
     inode: Inode,
     has_links: bool,
+    /// The state that the file has to keep. Directories that are entered are compared otherwise.
+    state: Stamp,
 }
 
 impl Reported {
@@ -76,6 +78,7 @@ impl Reported {
                 number: metadata.ino(),
             },
             has_links: metadata.nlink() > 1,
+            state: Stamp::of(metadata),
         })
     }
 
@@ -136,6 +139,10 @@ impl Survey for Whole<'_> {
         place: &str,
         metadata: &Metadata,
     ) -> io::Result<Option<Reported>> {
+        if let_rest(rt, &[Stamp::of(metadata)]) {
+            let rested = fs::symlink_metadata(rt, place)?;
+            return Ok(Some(Reported::of(rt, place, &rested)?));
+        }
         Ok(Some(Reported::of(rt, place, metadata)?))
     }
 
@@ -162,33 +169,67 @@ struct Scanned<'a> {
     entered: Vec<Directory<Stamp>>,
 }
 
+/// The files that were found, with the state of each.
+#[derive(Drop)]
+struct Found {
+    files: Vec<NamedFile>,
+    states: Vec<Stamp>,
+}
+
+impl Found {
+    /// Adds a file with its name, in which this number of bytes are in front of the path.
+    fn add(&mut self, reported: Reported, place: String, front: usize) -> io::Result<()> {
+        self.states.push(reported.state)?;
+        self.files.push(reported.named(place, front))?;
+        Ok(())
+    }
+
+    /// Reports the first file, except directories, that changed since it was found. If none did, all
+    /// files had what was found of them at one time.
+    fn check_unchanged(&self, reporter: &Reporter<'_>) -> Result<(), Status> {
+        for (file, state) in self.files.iter().zip(&self.states) {
+            if matches!(file.kind, FileKind::Directory) {
+                continue;
+            }
+            let name = file.place.as_bytes();
+            match fs::symlink_metadata(reporter.rt, &file.place) {
+                Ok(now) if Stamp::of(&now) == *state => {}
+                Ok(_) => return Err(reporter.failed(name, &FOLDER_CHANGED)),
+                Err(e) => return Err(reporter.refused(name, &e)),
+            }
+        }
+        Ok(())
+    }
+}
+
 /// Adds a directory with these attributes, and the files below it, to those that were found.
 fn add_all(
     rt: &HostRuntime,
-    found: &mut Vec<NamedFile>,
+    found: &mut Found,
     top: &str,
     metadata: &Metadata,
     entries: Vec<Entry<Reported>>,
 ) -> io::Result<()> {
     let place = String::from_str(rt.alloc(), base(top))?;
     let front = place.len();
-    found.push(Reported::of(rt, base(top), metadata)?.named(place, front))?;
+    found.add(Reported::of(rt, base(top), metadata)?, place, front)?;
     for entry in entries {
-        found.push(entry.known.named(entry.path, front))?;
+        found.add(entry.known, entry.path, front)?;
     }
     Ok(())
 }
 
 /// Returns the directories of a scan and all files below them, except excluded ones. The files of
-/// each directory are together. Reports each file that cannot be read, and a directory that changed
-/// during the scan.
+/// each directory are together. Reports each file that cannot be read, and one that changed during
+/// the scan.
 pub fn all_below(
     reporter: &Reporter<'_>,
     scan: &ScanAll<'_>,
     patterns: &Patterns,
 ) -> Result<Vec<NamedFile>, Status> {
     let alloc = reporter.rt.alloc();
-    let (mut found, mut entered) = (Vec::new(alloc), Vec::new(alloc));
+    let (files, states) = (Vec::new(alloc), Vec::new(alloc));
+    let (mut found, mut entered) = (Found { files, states }, Vec::new(alloc));
     let foreign = Vec::new(alloc);
     let mut whole = Whole { patterns, foreign };
     for top in &scan.directories {
@@ -207,7 +248,8 @@ pub fn all_below(
     }
     whole.all_texts(reporter)?;
     stayed(reporter, &scan.directories, &entered)?;
-    Ok(found)
+    found.check_unchanged(reporter)?;
+    Ok(found.files)
 }
 
 /// Reports which of the directories that were entered below each scanned one changed, if one did.

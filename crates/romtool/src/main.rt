@@ -1,6 +1,7 @@
 //! `romtool` builds, checks, lists and serves images of read-only file systems.
 //!
-//! `romtool build FORMAT MANIFEST OUT` builds an image from a manifest and the files that it names.
+//! `romtool build FORMAT MANIFEST OUT` builds an image from a manifest and the files that it names,
+//! and `romtool pack FORMAT DIR.. OUT` from directories.
 //! `romtool scan DIR` prints a manifest of the names and contents of a directory, and `romtool scan
 //! --all DIR` of the directory as it is. `romtool check IMAGE` reports whether a file holds a valid
 //! image. `romtool list IMAGE` lists its tree; `info`, `map`, `which`, `diff`, `digest`, `verify`,
@@ -21,6 +22,7 @@ mod bad_lines;
 mod beside;
 mod building;
 mod closing;
+mod contents;
 mod depfile;
 mod devices;
 mod differing;
@@ -30,6 +32,7 @@ mod disk;
 mod explained;
 mod extracting;
 mod extraction;
+mod faked;
 mod flash;
 mod foreseen;
 mod imaging;
@@ -53,6 +56,7 @@ mod progress;
 mod reading;
 mod replies;
 mod reporter;
+mod scan_all;
 mod scanning;
 mod sound;
 mod sources;

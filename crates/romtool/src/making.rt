@@ -1,4 +1,5 @@
-//! Makes directories, files and links where nothing exists, and syncs them to the disk.
+//! Makes directories, files and links where nothing exists, and syncs them to the disk if that is
+//! asked for.
 use crate::closing::close;
 use crate::directories::directory_at;
 use crate::place::{directory_of, name_in_directory};
@@ -82,8 +83,18 @@ fn opened(rt: &HostRuntime, place: &str) -> io::Result<File> {
     Ok(directory)
 }
 
-/// Syncs a directory to the disk, if its file system can do that.
-fn sync_directory(directory: &File) -> io::Result<()> {
+/// Whether what was made is synced to the disk.
+#[derive(Clone, Copy, PartialEq, Eq)]
+pub enum Syncing {
+    Synced,
+    Unsynced,
+}
+
+/// Syncs a directory to the disk, if its file system can do that and it is asked for.
+fn sync_directory(directory: &File, syncing: Syncing) -> io::Result<()> {
+    if syncing == Syncing::Unsynced {
+        return Ok(());
+    }
     match directory.sync_all() {
         Err(e)
             if !matches!(
@@ -94,18 +105,31 @@ fn sync_directory(directory: &File) -> io::Result<()> {
     }
 }
 
-/// Sets the mode and owner of a directory that was made, and syncs it to the disk.
-pub fn set_directory(rt: &HostRuntime, place: &str, rights: Rights) -> io::Result<()> {
+/// Sets the mode and owner of a directory that was made, and syncs it to the disk if that is asked
+/// for.
+pub fn set_directory(
+    rt: &HostRuntime,
+    place: &str,
+    rights: Rights,
+    syncing: Syncing,
+) -> io::Result<()> {
     let directory = opened(rt, place)?;
     give(&directory, rights)?;
-    sync_directory(&directory)
+    sync_directory(&directory, syncing)
 }
 
-/// Sets the mode and owner of a file that was written, syncs it to the disk, and closes it. Some
-/// file systems report only then that they lost what was written.
-pub fn finish_file(rt: &HostRuntime, file: File, rights: Rights) -> io::Result<()> {
+/// Sets the mode and owner of a file that was written, syncs it to the disk if that is asked for,
+/// and closes it. Some file systems report only then that they lost what was written.
+pub fn finish_file(
+    rt: &HostRuntime,
+    file: File,
+    rights: Rights,
+    syncing: Syncing,
+) -> io::Result<()> {
     give(&file, rights)?;
-    file.sync_all()?;
+    if syncing == Syncing::Synced {
+        file.sync_all()?;
+    }
     close(rt, file)
 }
 
@@ -219,8 +243,8 @@ impl Top {
     }
 
     /// Sets the mode and owner of the directory after it is filled, and syncs it and its name to
-    /// the disk. A directory that existed keeps its mode and owner.
-    pub fn end(self, rights: Rights) -> io::Result<()> {
+    /// the disk if that is asked for. A directory that existed keeps its mode and owner.
+    pub fn end(self, rights: Rights, syncing: Syncing) -> io::Result<()> {
         let Top {
             directory,
             above,
@@ -228,12 +252,12 @@ impl Top {
             masked: _,
         } = self;
         if !is_made {
-            return sync_directory(&directory);
+            return sync_directory(&directory, syncing);
         }
         give(&directory, rights)?;
-        sync_directory(&directory)?;
+        sync_directory(&directory, syncing)?;
         match above {
-            Ok(above) => sync_directory(&above),
+            Ok(above) => sync_directory(&above, syncing),
             // without the right to read the directory above, that one cannot be synced
             Err(e) if e.kind() == io::ErrorKind::PermissionDenied => Ok(()),
             Err(e) => Err(e),

@@ -4,6 +4,7 @@ ghost use Rattle.image_check.specs.Any.{any_view};
 ghost use Rattle.image_extract.specs.Members.{members_in};
 ghost use Rattle.tree_extract.specs.Members.{path_at};
 
+use crate::making::Syncing;
 use crate::reporter::Reporter;
 use arrayvec::ArrayVec;
 use image_check::AnyImage;
@@ -44,6 +45,8 @@ pub struct Extraction<'a> {
     pub reporter: &'a Reporter<'a>,
     pub tree: &'a ImageTree<'a, 'a, AnyImage<'a>>,
     pub directory: &'a str,
+    /// Whether what is made is synced to the disk.
+    pub syncing: Syncing,
 }
 
 impl Extraction<'_> {

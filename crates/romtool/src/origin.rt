@@ -11,6 +11,8 @@ pub struct Origin<'a> {
     pub joined: Option<&'a [Vec<u8>]>,
     /// Whether a source is refused if its own name is that of a symbolic link.
     pub no_follow: bool,
+    /// The directories in which the sources were found, if the manifest is of a scan.
+    pub directories: &'a [String],
 }
 
 impl<'a> Origin<'a> {

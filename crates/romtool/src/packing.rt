@@ -1,268 +1,30 @@
-//! Prints the manifest of directories as they are.
-use crate::aligning::align_all;
-use crate::beside::KeepError;
-use crate::inventory::all_below;
-use crate::overlay::{OverlayError, is_directory, laid_over, sort};
-use crate::patterns::Patterns;
-use crate::place::{behind_links, directory_of, name_in_directory};
+//! Scans directories, and builds the image of what was found.
 use crate::reporter::Reporter;
 use crate::stamp::Identity;
-use crate::target::Target;
-use crate::unfit::Unfit;
-use crate::{devices, own_output};
-use build_commands::inventory::{NamedFile, lines, put_found};
-use command_line::{Owner, ScanAll};
-use manifest::Entry;
-use program_streams::Again;
-use rom_commands::{Ending, Status};
-use rom_fields::{Failed, Plain};
-use sentences::reasons::{
-    KINDS_DIFFER, LONG_NAME, MANIFEST_NOT_TAKEN, OWN_ERROR, OWN_FILE, OWN_STREAM, PART_REPLACED,
-    SCANNED,
-};
-use std::alloc::AllocError;
-use std::io::{self, BufWriter};
-use std::{fs, str};
+use crate::{building, scan_all};
+use command_line::Pack;
+use rom_commands::Status;
+use std::fs;
 
-/// The most bytes of a volume's name.
-const MOST_VOLUME: usize = 255;
-
-/// Lays files over one another. Reports a file that cannot replace another one.
-fn laid(reporter: &Reporter<'_>, mut found: Vec<NamedFile>) -> Result<Vec<NamedFile>, Status> {
-    if sort(&mut found).is_err() {
-        return Err(reporter.say(Ending::Memory));
-    }
-    match laid_over(reporter.rt.alloc(), found) {
-        Ok(laid) => Ok(laid),
-        Err(OverlayError::OutOfMemory) => Err(reporter.say(Ending::Memory)),
-        Err(OverlayError::Kinds(file)) => {
-            Err(reporter.failed(file.place.as_bytes(), &KINDS_DIFFER))
-        }
-    }
-}
-
-/// Sets the owner of all files, if one is given.
-fn own_all(found: &mut [NamedFile], owner: Option<Owner>) {
-    if let Some(owner) = owner {
-        for file in found {
-            file.uid = owner.uid;
-            file.gid = owner.gid;
-        }
-    }
-}
-
-/// Lays the files of a list over those that were found, if one is named.
-fn with_devices(
-    reporter: &Reporter<'_>,
-    devices: Option<&str>,
-    mut found: Vec<NamedFile>,
-) -> Result<Vec<NamedFile>, Status> {
-    let Some(name) = devices else {
-        return Ok(found);
+/// Packs directories, and returns the status.
+fn pack(reporter: &Reporter<'_>, asked: &Pack<'_>) -> Result<Status, Status> {
+    let (scan, build) = (&asked.scan, asked.build);
+    let written = [scan.output, Some(build.out), build.depfile];
+    let scanned = scan_all::scanned_text(reporter, scan, &written)?;
+    let kept = match scan.output {
+        Some(name) => fs::metadata(reporter.rt, name).ok(),
+        None => None,
     };
-    for file in devices::listed(reporter, name, &found)? {
-        if found.push(file).is_err() {
-            return Err(reporter.say(Ending::Memory));
-        }
-    }
-    laid(reporter, found)
+    let kept = kept.map(|found| Identity::of(&found));
+    building::build_scanned(reporter, build, &scanned, kept)
 }
 
-/// Whether the next scan would find a file of this name in a directory that was found.
-fn is_found_in(
-    rt: &HostRuntime,
-    directory: &NamedFile,
-    name: &str,
-    patterns: &Patterns,
-) -> Result<bool, AllocError> {
-    let path = str::from_utf8(directory.path()).unwrap_or("");
-    let path = format!(in rt.alloc(); "{path}/{}", name_in_directory(name))?;
-    Ok(!patterns.exclude(rt.alloc(), path.trim_start_matches('/'))?)
-}
-
-/// Refuses to write the manifest into a directory that is scanned, unless its file is excluded: the
-/// next scan would find it.
-fn check_output(
-    reporter: &Reporter<'_>,
-    scan: &ScanAll<'_>,
-    found: &[NamedFile],
-    patterns: &Patterns,
-) -> Result<(), Status> {
-    let Some(name) = scan.output else {
-        return Ok(());
-    };
-    let led = behind_links(reporter.rt, name);
-    let whole = match &led {
-        Ok(whole) => whole.as_str(),
-        Err(_) => name,
-    };
-    let Ok(there) = fs::metadata(reporter.rt, directory_of(whole)) else {
-        return Ok(());
-    };
-    let is_there = |file: &NamedFile| {
-        let inode = &file.inode;
-        is_directory(file) && Identity::at(inode.device, inode.number) == Identity::of(&there)
-    };
-    match found.iter().find(|file| is_there(file)) {
-        None => Ok(()),
-        Some(directory) => match is_found_in(reporter.rt, directory, whole, patterns) {
-            Ok(false) => Ok(()),
-            Ok(true) => Err(reporter.failed(name.as_bytes(), &SCANNED)),
-            Err(_) => Err(reporter.say(Ending::Memory)),
-        },
-    }
-}
-
-/// All files of the manifest, in the order of its lines.
-fn all_found(reporter: &Reporter<'_>, scan: &ScanAll<'_>) -> Result<Vec<NamedFile>, Status> {
-    let patterns = Patterns::of(reporter, scan)?;
-    let found = all_below(reporter, scan, &patterns)?;
-    check_output(reporter, scan, &found, &patterns)?;
-    let mut found = laid(reporter, found)?;
-    own_all(&mut found, scan.owner);
-    align_all(reporter, &patterns, scan.align, &mut found)?;
-    with_devices(reporter, scan.devices, found)
-}
-
-/// Which files a manifest is made of: those that it names, and the file of devices.
-fn inputs_of(
-    rt: &HostRuntime,
-    devices: Option<&str>,
-    found: &[NamedFile],
-) -> io::Result<Vec<Identity>> {
-    let mut all = Vec::new(rt.alloc());
-    if let Some(name) = devices
-        && let Ok(there) = fs::metadata(rt, name)
-    {
-        all.push(Identity::of(&there))?;
-    }
-    for file in found {
-        all.push(Identity::at(file.inode.device, file.inode.number))?;
-    }
-    Ok(all)
-}
-
-/// Opens the target for the manifest. It is neither a file that the manifest is made of, nor a file
-/// that is standard output or standard error.
-fn target_of(
-    reporter: &Reporter<'_>,
-    name: &str,
-    devices: Option<&str>,
-    found: &[NamedFile],
-) -> Result<Target, Status> {
-    let rt = reporter.rt;
-    let mut inputs = match inputs_of(rt, devices, found) {
-        Ok(inputs) => inputs,
-        Err(e) => return Err(reporter.refused(name.as_bytes(), &e)),
-    };
-    if let Ok(there) = fs::metadata(rt, name) {
-        if inputs.contains(&Identity::of(&there)) {
-            return Err(reporter.failed(name.as_bytes(), &OWN_FILE));
-        }
-        if there.is_file() && own_output::is_own(rt, &there) {
-            return Err(reporter.failed(name.as_bytes(), &OWN_STREAM));
-        }
-        if there.is_file() && own_output::is_own_error(rt, &there) {
-            return Err(reporter.failed(name.as_bytes(), &OWN_ERROR));
-        }
-    }
-    for stream in [own_output::identity(rt), own_output::error_identity(rt)] {
-        if let Some(stream) = stream
-            && inputs.push(stream).is_err()
-        {
-            return Err(reporter.say(Ending::Memory));
-        }
-    }
-    match Target::open(rt, name, inputs) {
-        Ok(target) => Ok(target),
-        Err(e) => Err(reporter.refused(name.as_bytes(), &e)),
-    }
-}
-
-/// Writes a manifest to its target. Reports a failure.
-fn write_to(
-    reporter: &Reporter<'_>,
-    target: &mut Target,
-    name: &str,
-    volume: &[u8],
-    lines: &[Entry<'_>],
-) -> Result<(), Status> {
-    let Some(mut writer) = target.take_writer() else {
-        return Err(reporter.failed(name.as_bytes(), &MANIFEST_NOT_TAKEN));
-    };
-    if put_found(&mut writer, volume, lines).is_ok() {
-        target.put_back(writer);
-        return Ok(());
-    }
-    Err(match writer.into_inner().error() {
-        Some(e) => reporter.refused(name.as_bytes(), &e),
-        None => reporter.failed(name.as_bytes(), &MANIFEST_NOT_TAKEN),
-    })
-}
-
-/// Writes a manifest into a file, which then has all of it, or stays as it was.
-fn write_file(
-    reporter: &Reporter<'_>,
-    name: &str,
-    volume: &[u8],
-    lines: &[Entry<'_>],
-    mut target: Target,
-) -> Result<(), Status> {
-    if let Err(status) = write_to(reporter, &mut target, name, volume, lines) {
-        target.abandon(reporter.rt);
-        return Err(status);
-    }
-    match target.keep(reporter.rt) {
-        Ok(()) => Ok(()),
-        Err(KeepError::Refused(e)) => Err(reporter.refused(name.as_bytes(), &e)),
-        Err(KeepError::Changed) => Err(reporter.changed(name.as_bytes(), &PART_REPLACED)),
-    }
-}
-
-/// Prints a manifest on standard output.
-fn print(reporter: &Reporter<'_>, volume: &[u8], lines: &[Entry<'_>]) -> Result<(), Status> {
-    let Ok(out) = BufWriter::new(reporter.rt.alloc(), Again::new(io::writer(reporter.rt))) else {
-        return Err(reporter.say(Ending::Memory));
-    };
-    match put_found(&mut Plain::new(out), volume, lines) {
-        Ok(()) => Ok(()),
-        Err(Failed) => Err(reporter.say(Ending::WriteFault)),
-    }
-}
-
-/// Scans, and writes the manifest. Nothing is written if a file cannot be read.
-fn pack(reporter: &Reporter<'_>, scan: &ScanAll<'_>) -> Result<(), Status> {
-    let volume = scan.volume.unwrap_or("").as_bytes();
-    if volume.len() > MOST_VOLUME {
-        let status = reporter.say(Ending::Usage);
-        reporter.explain(volume, &LONG_NAME);
-        return Err(status);
-    }
-    let found = all_found(reporter, scan)?;
-    let Ok(lines) = lines(reporter.rt.alloc(), scan.format, &found) else {
-        return Err(reporter.say(Ending::Memory));
-    };
-    let Ok(unfit) = Unfit::of(reporter.rt.alloc(), &lines, &found) else {
-        return Err(reporter.say(Ending::Memory));
-    };
-    if scan.strict && !unfit.is_none() {
-        return Err(unfit.refuse(reporter, scan));
-    }
-    match scan.output {
-        Some(name) => {
-            let target = target_of(reporter, name, scan.devices, &found)?;
-            write_file(reporter, name, volume, &lines, target)?;
-        }
-        None => print(reporter, volume, &lines)?,
-    }
-    unfit.explain(reporter, scan);
-    Ok(())
-}
-
-/// Prints a manifest of directories as they are, or writes it into a file. Returns the status.
-pub fn run(reporter: &Reporter<'_>, scan: &ScanAll<'_>) -> Status {
-    match pack(reporter, scan) {
-        Ok(()) => Status::Done,
+/// Packs directories: the image of a manifest that is in no file, or is kept in one. Words are
+/// written on standard error, unless that is not wished. Returns the status.
+pub fn run(reporter: &Reporter<'_>, asked: &Pack<'_>) -> Status {
+    let reporter = &reporter.with_words(!asked.is_quiet);
+    match pack(reporter, asked) {
+        Ok(status) => status,
         Err(status) => status,
     }
 }

@@ -10,8 +10,8 @@ use crate::replies::Replies;
 use crate::reporter::Reporter;
 use crate::streams::hold_closed;
 use crate::{
-    building, differing, digesting, extracting, flash, packing, reading, scanning, totals,
-    verifying, version,
+    building, differing, digesting, extracting, flash, packing, reading, scan_all, scanning,
+    totals, verifying, version,
 };
 use command_line::{Extract, MapForm, Request, read};
 use image_check::check;
@@ -80,7 +80,8 @@ fn done(reporter: &Reporter<'_>, request: Request<'_>) -> Status {
         Request::Space(images) => space(reporter, images.as_slice()),
         Request::Build(build) => building::run(reporter, build),
         Request::Scan(scan) => scanning::run(reporter, scan),
-        Request::ScanAll(scan) => packing::run(reporter, &scan),
+        Request::Pack(pack) => packing::run(reporter, &pack),
+        Request::ScanAll(scan) => scan_all::run(reporter, &scan),
         Request::Extract(extract) => take_apart(reporter, extract),
         Request::Digest(digest) => digesting::run(reporter, digest),
         Request::Verify(verify) => verifying::run(reporter, verify),

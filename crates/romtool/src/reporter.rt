@@ -101,6 +101,14 @@ impl<'a> Reporter<'a> {
         }
     }
 
+    /// Returns the same reporter, with words for people or without them.
+    pub fn with_words(&self, is_explained: bool) -> Reporter<'a> {
+        Reporter {
+            rt: self.rt,
+            is_explained,
+        }
+    }
+
     /// Returns whether words for people are written as well.
     pub fn is_explained(&self) -> bool {
         self.is_explained

@@ -140,13 +140,17 @@ pub fn has_changed(rt: &HostRuntime, name: &str, stamp: &Stamp) -> io::Result<bo
 }
 
 /// Waits until each later change of these files also changes their states: if one was changed a
-/// moment ago, until the file system's clock has advanced.
-pub fn let_rest(rt: &HostRuntime, stamps: &[Stamp]) {
+/// moment ago, until the file system's clock has advanced. Returns whether it waited.
+pub fn let_rest(rt: &HostRuntime, stamps: &[Stamp]) -> bool {
     let Ok(now) = rt.since_1970() else {
-        return;
+        return false;
     };
     let rests = stamps.iter().filter_map(|stamp| stamp.rest(now));
-    if let Some(longest) = rests.max() {
-        thread::sleep(rt, longest);
+    match rests.max() {
+        Some(longest) => {
+            thread::sleep(rt, longest);
+            true
+        }
+        None => false,
     }
 }

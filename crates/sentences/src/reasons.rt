@@ -30,7 +30,7 @@ pub const SOURCE_CHANGED: &str = "it changed while it was read";
 pub const SOURCE_UNREAD: &str =
     "it could not be read, or its length is not the length that the system reported";
 
-/// A directory changed.
+/// A file or a directory changed during a scan.
 pub const FOLDER_CHANGED: &str = "it changed while it was scanned";
 
 /// The image or the rule has the name of a file that the image is made of.
@@ -139,6 +139,10 @@ pub const OWN_FILE: &str = "it is a file that the manifest lists, or the file of
 
 /// The manifest would be in a directory that is scanned.
 pub const SCANNED: &str = "it is in a scanned directory, so the next scan would list it";
+
+/// Owners and devices would not be those that fakeroot or pseudo shows.
+pub const FAKED: &str = "fakeroot or pseudo is in the environment and does not reach this program \
+    (it is static, or LD_PRELOAD is lost), so owners and devices would be wrong";
 
 /// The manifest has the name of standard output.
 pub const OWN_STREAM: &str = "it is the file that standard output is written to";

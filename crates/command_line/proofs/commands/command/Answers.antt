@@ -1,7 +1,7 @@
 use Rattle.std.proofs.Common.{◌≡◌, Result, Ok, Err, IfOk, ap, ◌∙◌, refl, List}
 use Rattle.clap.specs.Words.{App, Shape, app_of}
 use Rattle.clap.specs.declared.builder.command.Command.{Command}
-use Rattle.command_line.specs.Commands.{other_shapes, reading_shapes, with_shapes}
+use Rattle.command_line.specs.Commands.{building_shapes, other_shapes, reading_shapes, with_shapes}
 use Rattle.command_line.proofs.commands.command.Goals as goal
 
 onto : {E : Type 0} (r : Result Command E) (a b : App) (ss : List Shape) → a ≡ b
@@ -11,5 +11,6 @@ onto (Err _) a b ss e h = tt
 
 pub returns : goal.returns
 returns c = onto _ _ _ other_shapes
-    (c.in_ok-with_subcommands.ensures ∙ ap (λ (x : App). with_shapes x reading_shapes) c.in_ok-top.ensures)
+    (c.in_ok-with_building.ensures ∙ ap (λ (x : App). with_shapes x building_shapes)
+    (c.in_ok-reading.ensures ∙ ap (λ (x : App). with_shapes x reading_shapes) c.in_ok-top.ensures))
     c.with_others.ensures

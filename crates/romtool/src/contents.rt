@@ -1,0 +1,131 @@
+//! The table of what an image has in it, for people.
+use crate::reporter::Reporter;
+use command_line::Build;
+use manifest::{Line, Manifest, Word};
+use sentences::words::{escaped, shown};
+use std::alloc::{AllocError, Global};
+
+/// How many of the largest files are named.
+const LARGEST: usize = 5;
+
+/// How many lines of each kind a manifest has.
+#[derive(Clone, Copy, Default)]
+struct Counts {
+    files: u64,
+    directories: u64,
+    links: u64,
+    devices: u64,
+    further_names: u64,
+    others: u64,
+}
+
+impl Counts {
+    /// Counts a line.
+    fn add(&mut self, word: Word) {
+        let count = match word {
+            Word::File | Word::Same => &mut self.files,
+            Word::Dir => &mut self.directories,
+            Word::Slink => &mut self.links,
+            Word::Block | Word::Character => &mut self.devices,
+            Word::Hard => &mut self.further_names,
+            Word::Fifo | Word::Socket => &mut self.others,
+        };
+        *count = count.saturating_add(1);
+    }
+
+    /// Counts all lines of a manifest.
+    fn of(manifest: &Manifest) -> Counts {
+        let mut counts = Counts::default();
+        for line in manifest.lines() {
+            counts.add(line.word);
+        }
+        counts
+    }
+
+    /// The row of the kinds that there are.
+    fn row(&self, alloc: Global) -> Result<String, AllocError> {
+        let mut row = String::new(alloc);
+        for (count, one, several) in [
+            (self.files, "file", "files"),
+            (self.directories, "directory", "directories"),
+            (self.links, "symbolic link", "symbolic links"),
+            (self.devices, "device", "devices"),
+            (self.further_names, "further name", "further names"),
+            (self.others, "FIFO or socket", "FIFOs and sockets"),
+        ] {
+            if count > 0 {
+                let comma = if row.is_empty() { "" } else { ", " };
+                let word = if count == 1 { one } else { several };
+                row.push_str(&format!(in alloc; "{comma}{count} {word}")?)?;
+            }
+        }
+        Ok(row)
+    }
+}
+
+/// The files with contents of their own, each with its size, the largest first.
+fn by_size<'m>(
+    alloc: Global,
+    manifest: &'m Manifest,
+    sizes: &[u64],
+) -> Result<Vec<(u64, &'m Line)>, AllocError> {
+    let files = manifest.lines().iter();
+    let mut files = files.filter(|line| matches!(line.word, Word::File));
+    let mut found = Vec::new(alloc);
+    for size in sizes {
+        if let Some(line) = files.next() {
+            found.push((*size, line))?;
+        }
+    }
+    found.sort_by(|a: &(u64, &Line), b: &(u64, &Line)| b.0.cmp(&a.0))?;
+    Ok(found)
+}
+
+/// Adds a row: a number of bytes, and what they are.
+fn add_row(text: &mut String, alloc: Global, bytes: u64, what: &str) -> Result<(), AllocError> {
+    text.push_str(&format!(in alloc; "{bytes:>14}  {what}\n")?)
+}
+
+/// The table of an image of this length.
+fn table(
+    alloc: Global,
+    asked: Build<'_>,
+    manifest: &Manifest,
+    len: u64,
+    sizes: &[u64],
+) -> Result<String, AllocError> {
+    let (out, format) = (escaped(alloc, asked.out.as_bytes())?, asked.format.name());
+    let counts = Counts::of(manifest).row(alloc)?;
+    let contents = sizes.iter().fold(0, |sum: u64, size| sum.saturating_add(*size));
+    let mut text = format!(in alloc; "romtool: {out}: {format}, {counts}\n")?;
+    add_row(&mut text, alloc, len, "the image")?;
+    add_row(&mut text, alloc, contents, "contents of files")?;
+    add_row(&mut text, alloc, len.saturating_sub(contents), "names, tables and padding")?;
+    if let Some(most) = asked.max_size {
+        add_row(&mut text, alloc, most.saturating_sub(len), "free")?;
+    }
+    if asked.xip {
+        text.push_str("each program is executed in place\n")?;
+    }
+    text.push_str("the largest files:\n")?;
+    for (size, line) in by_size(alloc, manifest, sizes)?.iter().take(LARGEST) {
+        let path = shown(alloc, line.path.as_bytes())?;
+        add_row(&mut text, alloc, *size, &path)?;
+    }
+    Ok(text)
+}
+
+/// Explains by a table what an image of a manifest has in it. Its length and the sizes of its
+/// sources are given.
+pub fn explain(
+    reporter: &Reporter<'_>,
+    asked: Build<'_>,
+    manifest: &Manifest,
+    (len, sizes): (u64, &[u64]),
+) {
+    if reporter.is_explained()
+        && let Ok(text) = table(reporter.rt.alloc(), asked, manifest, len, sizes)
+    {
+        reporter.put(text.as_bytes());
+    }
+}
