@@ -304,9 +304,9 @@ def named_by_guide(fault):
     """Yields the files that the guide for new faults names: for each the name, what it is for this fault as a pattern, and whether
     each fault needs it. A word in braces is any word, and `{FAULT}` is the constant of the fault in small letters."""
     section = re.search(r"^## How to add a fault of an image\n(.*?)^## ", text_of(GUIDE), re.M | re.S)[1]
-    always, _, sometimes = section.partition("| file | only if |")
+    always, _, sometimes = section.partition("\n**Only if**")
     for part in (always, sometimes):
-        for name in re.findall(r"^\| `([^`]+)` \|", part, re.M):
+        for name in re.findall(r"`((?:docs|crates|tests)/[^`]+\.(?:antt|edit|json|md|rt)|CHANGELOG\.md)`", part):
             pattern = re.escape(name.replace("{FAULT}", fault.constant.lower()))
             yield name, re.sub(r"\\\{\w+\\\}", r"\\w+", pattern), part is always
 

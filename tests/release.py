@@ -96,7 +96,8 @@ def versions(binary, counts):
     """The version in the code is that of the man page, of the header if it has one, of the newest release in CHANGELOG.md, and
     what the program says. CHANGELOG.md has what is not released yet on top, and releases from the newest on."""
     version = installation.version()
-    counts.equal("the man page's version", re.findall(r'^\.TH .*"romtool (\S+)"', text_of("docs/romtool.1"), re.M), [version])
+    manual = works(counts, [TOOLS + "/manual", "--program", binary])
+    counts.equal("the man page's version", re.findall(r'^\.TH .*"romtool (\S+)"', manual or "", re.M), [version])
     in_header = re.findall(r'VERSION\w* "([\d.]+)"', text_of("include/romtool.h"))
     counts.equal("the header's version", in_header or [version], [version])
     in_readme = set(re.findall(r"romtool(?:-dev)?[-_](\d+\.\d+\.\d+)", text_of("README.md")))

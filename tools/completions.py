@@ -25,22 +25,30 @@ KINDS = {
 
 @dataclass
 class Option:
-    """An option: its name with the dashes, the name of its value or None, and its sentence."""
+    """An option: its name with the dashes, the name of its value or None, its sentence, and its letter with the dash if it has one."""
 
     name: str
     value: str | None
     about: str
+    letter: str = ""
 
 
 @dataclass
 class Subcommand:
-    """A subcommand: its name, its sentence, the names of its words, whether the last one repeats, and its options."""
+    """A subcommand: its name, its sentence, the names of its words, whether the last one repeats, its options, and the sentences of
+    its words by their names."""
 
     name: str
     about: str
     words: list
     repeats: bool
     options: list
+    sentences: dict
+
+
+# what help shows of itself, which is no part of the table
+ASKED = [Option("--help", None, "Print help", "-h"), Option("--version", None, "Print version", "-V")]
+HELP = Subcommand("help", "Prints help of a subcommand", ["[SUBCOMMAND]"], False, [], {})
 
 
 def help_of(program, *words):
@@ -53,15 +61,18 @@ def help_of(program, *words):
 
 def options_in(text):
     """Returns the options that a text of help lists, without those for help and for the version."""
-    found = re.findall(r"^ +(?:-\w, )?(--[\w-]+)(?: <([^>]+)>)?  +(.*)$", text.partition("\nOptions:\n")[2], re.M)
-    return [Option(name, value or None, about) for name, value, about in found if name not in ("--help", "--version")]
+    found = re.findall(r"^ +(?:(-\w), )?(--[\w-]+)(?: <([^>]+)>)?  +(.*)$", text.partition("\nOptions:\n")[2], re.M)
+    asked = [it.name for it in ASKED]
+    return [Option(name, value or None, about, letter) for letter, name, value, about in found if name not in asked]
 
 
 def subcommand(program, name, about):
     """Returns a subcommand with what the program's help of it lists."""
     text = help_of(program, name)
     usage = re.search(r"^Usage: .*$", text, re.M)[0]
-    return Subcommand(name, about, re.findall(r"<([^>]+)>", usage), usage.endswith("..."), options_in(text))
+    listed = text.partition("\nArguments:\n")[2].partition("\n\n")[0]
+    sentences = dict(re.findall(r"^  <([^>]+)>(?:\.\.\.)? +(.*)$", listed, re.M))
+    return Subcommand(name, about, re.findall(r"<([^>]+)>", usage), usage.endswith("..."), options_in(text), sentences)
 
 
 def table(program):

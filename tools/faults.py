@@ -124,7 +124,7 @@ def python_names(faults):
 
 
 def man_rows(faults):
-    """Returns the rows of the man page. A line that begins with a dot or a quote would be a macro."""
+    """Returns the rows of the man page, which tools/manual prints. A line that begins with a dot or a quote would be a macro."""
     rows = ((it, "\\&" if it.sentence[0] in ".'" else "") for it in faults)
     return "".join(f".TP\n.B {it.number} {it.name}\n{guard}{it.sentence}.\n" for it, guard in rows)
 
@@ -145,7 +145,6 @@ PARTS = (
     ("include/romtool.h", marked("/*", " */"), c_names),
     ("bindings/rust/src/error.rs", marked("//"), rust_names),
     ("bindings/python/romtool/_errors.py", marked("#"), python_names),
-    ("docs/romtool.1", marked('.\\"'), man_rows),
 )
 
 

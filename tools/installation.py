@@ -13,7 +13,7 @@ TOP = kit.TOP
 PROGRAM = f"{TOP}/crates/romtool/out/romtool"
 LIBRARY = f"{TOP}/crates/rom_c/out/librom_c.a"
 # the pages of docs/ that users read
-GUIDES = ("C", "CLIENTS", "FAULTS", "LINES", "LINUX", "MANIFEST", "PEERS", "PROTOCOL")
+GUIDES = ("C", "FAULTS", "LINES", "LINUX", "MANIFEST", "PROTOCOL")
 DOCUMENTS = "share/doc/romtool"
 # the recipes for build systems, by their paths in recipes/ and under share/romtool
 RECIPES = {
@@ -141,7 +141,8 @@ def whole_archive(archive):
 
 def program_files(program):
     """Returns the files of the program: for each path under the prefix its bytes and its mode."""
-    found = {"bin/romtool": (content(program), 0o755), "share/man/man1/romtool.1": (content("docs/romtool.1"), 0o644)}
+    manual = run(f"{TOP}/tools/manual", "--program", program)
+    found = {"bin/romtool": (content(program), 0o755), "share/man/man1/romtool.1": (manual, 0o644)}
     for shell, path in COMPLETIONS.items():
         found[path] = (completions.text(shell, program).encode(), 0o644)
     for name in ("README.md", "CHANGELOG.md", "LICENSE"):
