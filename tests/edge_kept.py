@@ -132,6 +132,7 @@ def printing(binary):
     yield ["scan", "--all", "in"], 0
     yield ["extract", "image", "to"], 0
     yield ["build", "romfs", "m", "out"], 0
+    yield ["pack", "--quiet", "romfs", "in", "out"], 0
     yield [], 0
 
 

@@ -4,9 +4,10 @@ ghost use Rattle.clap.specs.Words.{all_of, first_of, found_of, rows_of};
 ghost use Rattle.command_line.specs.Numbers.{AreAddresses, AreAligns, IsAddress, IsBaseOf};
 ghost use Rattle.formats.specs.Format.{name_of};
 ghost use Rattle.command_line.specs.Numbers.{IsOptional, IsSize, NotesAlign};
-ghost use Rattle.command_line.specs.Words.{ArePlaces, AreTexts, HasNoValueForAll, IsAskedBy, IsFlag};
-ghost use Rattle.command_line.specs.Words.{IsDirectory, IsForm, IsOffsetOf, IsOwnerOf, IsPlainScan};
-ghost use Rattle.command_line.specs.Words.{IsPackedBuild, IsPackedScan, texts_or_none, word_of};
+ghost use Rattle.command_line.specs.Words.{ArePlaces, AreTexts, HasNoValueForAll, IsAskedBy};
+ghost use Rattle.command_line.specs.Words.{IsDirectory, IsFlag, IsForm, IsOffsetOf, IsOwnerOf};
+ghost use Rattle.command_line.specs.Words.{IsPackedBuild, IsPackedScan, IsPlainScan};
+ghost use Rattle.command_line.specs.Words.{texts_or_none, word_of};
 ghost use Rattle.command_line.specs.declared.request.Request.TheVariants as request;
 
 use crate::error::{WordsError, Wrong};
@@ -388,7 +389,8 @@ struct Places<'a> {
 
 /// Returns the directories that are packed, and the file of the image, which follows them.
 fn places_of<'a>(alloc: Global, values: &ArgMatches<'a>) -> Result<Places<'a>, WordsError<'a>>
-    ensures { IfOk result (λ p. ArePlaces (rows_of (found_of values.now)) p.directories.items p.out) }
+    ensures { IfOk result
+        (λ p. ArePlaces (rows_of (found_of values.now)) p.directories.items p.out) }
 {
     let mut directories = texts_of(alloc, values, "folder")?;
     match directories.pop() {
@@ -407,13 +409,14 @@ fn packed_build<'a>(
         × IsPackedBuild (rows_of (found_of values.now)) b) }
 {
     let max_size = size_of(values, "max-size")?;
+    let xip = is_given(values, "xip");
     Ok(Build {
         format,
         manifest: NO_FILE,
         out,
         no_follow: true,
         strict: is_given(values, "strict"),
-        xip: is_given(values, "xip"),
+        xip,
         max_size,
         sources: None,
         depfile: value_of(values, "depfile"),
@@ -430,7 +433,7 @@ fn packed_scan<'a>(
     ensures { IfOk result (λ s. (s.format ≡ Some format) × (s.directories ≡ directories)
         × IsPackedScan (rows_of (found_of values.now)) s) }
 {
-    let excludes = texts_of(alloc, values, "exclude")?;
+    let patterns = texts_of(alloc, values, "exclude")?;
     let aligns = aligns_of(alloc, values)?;
     let owner = wished_owner(values)?;
     Ok(ScanAll {
@@ -439,7 +442,7 @@ fn packed_scan<'a>(
         align: aligns.usual,
         aligns: aligns.rules,
         owner,
-        excludes,
+        excludes: patterns,
         volume: value_of(values, "volume"),
         devices: value_of(values, "devices"),
         output: value_of(values, "manifest"),

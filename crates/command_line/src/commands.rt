@@ -2,7 +2,8 @@
 ghost use Rattle.std.specs.Prelude.{◌≡◌, IfOk, false, map};
 ghost use Rattle.clap.specs.Words.{app_of, rule_of, shape_of};
 ghost use Rattle.command_line.specs.Commands.{IsShaped, flag_rule, romtool_app, romtool_top};
-ghost use Rattle.command_line.specs.Commands.{building_shapes, other_shapes, with_rules, with_shapes};
+ghost use Rattle.command_line.specs.Commands.{building_shapes, other_shapes, with_rules};
+ghost use Rattle.command_line.specs.Commands.{with_shapes};
 ghost use Rattle.command_line.specs.Table.{rule_named, shape_named};
 
 use crate::table::{BUILDING, EXPLAIN, Kind, OTHERS, READING, Subcommand, Word};

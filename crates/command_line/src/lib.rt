@@ -16,7 +16,7 @@ mod words;
 pub use commands::VERSION;
 pub use error::{WordsError, Wrong};
 pub use request::{
-    AlignRule, Build, Cat, Diff, Digest, Extract, Info, Map, MapForm, Owner, Pack, Request,
-    Scan, ScanAll, Verify, Which, Xip,
+    AlignRule, Build, Cat, Diff, Digest, Extract, Info, Map, MapForm, Owner, Pack, Request, Scan,
+    ScanAll, Verify, Which, Xip,
 };
 pub use words::{is_explain, read};

@@ -416,8 +416,8 @@ const NO_SYNC: Word<'static> = Word {
     help: "Does not wait until the disk has the files, which is faster",
 };
 
-/// The subcommands that read one image or two. Help shows them first, then those of the next tables.
-/// (One table of all subcommands takes the prover much longer than several.)
+/// The subcommands that read one image or two. Help shows them first, and then those of the next
+/// tables. (One table of all subcommands takes the prover much longer than several.)
 pub const READING: [Subcommand<'static>; 11] = [
     Subcommand {
         name: "check",

@@ -673,7 +673,7 @@ pub fn build_scanned(
         identity: file,
         stamp: None,
     };
-    let names = names_of(reporter, origin, manifest.sources())?;
+    let names = names_of(reporter, origin, origin.manifest.sources())?;
     let built = build_from(reporter, asked, origin, &names, text)?;
     contents::explain(reporter, asked, &manifest, (built.len, &built.sizes));
     Ok(built.status)

@@ -96,11 +96,18 @@ fn table(
 ) -> Result<String, AllocError> {
     let (out, format) = (escaped(alloc, asked.out.as_bytes())?, asked.format.name());
     let counts = Counts::of(manifest).row(alloc)?;
-    let contents = sizes.iter().fold(0, |sum: u64, size| sum.saturating_add(*size));
+    let contents = sizes
+        .iter()
+        .fold(0, |sum: u64, size| sum.saturating_add(*size));
     let mut text = format!(in alloc; "romtool: {out}: {format}, {counts}\n")?;
     add_row(&mut text, alloc, len, "the image")?;
     add_row(&mut text, alloc, contents, "contents of files")?;
-    add_row(&mut text, alloc, len.saturating_sub(contents), "names, tables and padding")?;
+    add_row(
+        &mut text,
+        alloc,
+        len.saturating_sub(contents),
+        "names, tables and padding",
+    )?;
     if let Some(most) = asked.max_size {
         add_row(&mut text, alloc, most.saturating_sub(len), "free")?;
     }

@@ -184,8 +184,8 @@ impl Found {
         Ok(())
     }
 
-    /// Reports the first file, except directories, that changed since it was found. If none did, all
-    /// files had what was found of them at one time.
+    /// Reports the first file, except directories, that changed since it was found. If none did,
+    /// all files had what was found of them at one time.
     fn check_unchanged(&self, reporter: &Reporter<'_>) -> Result<(), Status> {
         for (file, state) in self.files.iter().zip(&self.states) {
             if matches!(file.kind, FileKind::Directory) {

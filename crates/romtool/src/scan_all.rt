@@ -1,9 +1,9 @@
 //! The manifest of directories as they are.
 use crate::aligning::align_all;
 use crate::beside::KeepError;
+use crate::faked::check_faked;
 use crate::inventory::all_below;
 use crate::overlay::{OverlayError, is_directory, laid_over, sort};
-use crate::faked::check_faked;
 use crate::patterns::Patterns;
 use crate::place::{behind_links, directory_of, name_in_directory};
 use crate::reporter::Reporter;

@@ -3,12 +3,10 @@
 #     IMAGE_CLASSES += "image_types_romtool"
 #     IMAGE_FSTYPES += "romtool"
 #
-# The released program is static, so under pseudo it sees the builder's owners, and devices as empty files:
-# ROMTOOL_SCAN_OPTIONS has --all-root, and ROMTOOL_DEVICES names a file for --devices; a dynamically linked program needs
-# neither.
+# Owners, modes and devices are those that pseudo shows. ROMTOOL_DEVICES may name a file for --devices.
 
 ROMTOOL_FORMAT ?= "${@'cramfs-be' if d.getVar('SITEINFO_ENDIANNESS') == 'be' else 'cramfs'}"
-ROMTOOL_SCAN_OPTIONS ?= "--all-root --align 4096"
+ROMTOOL_SCAN_OPTIONS ?= "--align 4096"
 ROMTOOL_BUILD_OPTIONS ?= "--strict"
 ROMTOOL_DEVICES ?= ""
 

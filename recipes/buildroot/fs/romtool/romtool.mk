@@ -1,5 +1,4 @@
-# Not tried in Buildroot: only with stubs of its macros (tests/recipes.py). The released program is static, so under fakeroot
-# it sees the builder's owners, and devices as empty files: use --all-root and --devices, or a dynamically linked program.
+# Not tried in Buildroot: only with stubs of its macros (tests/recipes.py).
 
 ROOTFS_ROMTOOL_DEPENDENCIES = host-romtool
 ROOTFS_ROMTOOL_CRAMFS = $(if $(filter BIG,$(call qstrip,$(BR2_ENDIAN))),cramfs-be,cramfs)

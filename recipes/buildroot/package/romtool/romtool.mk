@@ -1,6 +1,6 @@
 # Not tried in Buildroot: only with stubs of its macros (tests/recipes.py). It installs host-romtool from the archive of a
-# release, whose program is static: under fakeroot it sees the builder's owners, and devices as empty files, so use --all-root
-# and --devices, or name a dynamically linked program by HOST_ROMTOOL_PROGRAM.
+# release. On a host without glibc 2.34, HOST_ROMTOOL_PROGRAM may be bin/romtool-static, which fakeroot does not reach: then
+# use --all-root and --devices, and run it without fakeroot's variables.
 
 ROMTOOL_VERSION = 2.0.0
 ROMTOOL_SOURCE = romtool-$(ROMTOOL_VERSION)-x86_64-linux.tar.gz

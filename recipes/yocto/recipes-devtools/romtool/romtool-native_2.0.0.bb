@@ -1,6 +1,4 @@
-# Not tried in Yocto: only its shell function was run (tests/recipes.py). It installs the program of a release, which is static:
-# under pseudo it sees the builder's owners, and devices as empty files, so the class uses --all-root and --devices; a
-# dynamically linked program needs neither.
+# Not tried in Yocto: only its shell function was run (tests/recipes.py). It installs the program of a release.
 SUMMARY = "Builds and checks romfs and cramfs images that are executed in place"
 LICENSE = "MIT"
 LIC_FILES_CHKSUM = "file://share/doc/romtool/LICENSE;md5=b7c74c976fbb5e4cf59f1caf3eedd9e1"
