@@ -10,6 +10,7 @@ file. A manifest has to be right, or it is not printed; what is reported instead
 """
 
 import collections
+import itertools
 import os
 import re
 import resource
@@ -17,6 +18,7 @@ import shutil
 import signal
 import socket
 import stat
+import subprocess
 import sys
 import time
 
@@ -680,12 +682,66 @@ def folders_that_rest(binary):
             yield "%s: %d rests, status %d" % (words, rests, done.returncode)
 
 
+# of two files, at each moment at most one has the mode 0644
+TURNS = """
+import os, time
+end = time.time() + 4
+while time.time() < end:
+    os.chmod("in/z", 0o600); os.chmod("in/a", 0o644); time.sleep(0.0005)
+    os.chmod("in/a", 0o600); os.chmod("in/z", 0o644); time.sleep(0.0003)
+"""
+
+
+def while_it_runs(script):
+    """Yields a number for each turn of a test while a script runs."""
+    with subprocess.Popen([sys.executable, "-c", script]) as racer:
+        yield from itertools.takewhile(lambda _: racer.poll() is None, itertools.count())
+
+
+def one_moment(binary):
+    """While two files change their modes in turn, a scan shows a state that there was, or is refused."""
+    os.mkdir("in")
+    for name in ("a", "z", *("m%d" % number for number in range(300))):
+        put("in/" + name, b"", 0o600)
+    ends = collections.Counter()
+    for _ in while_it_runs(TURNS):
+        out, said, status = answer(run(binary, "scan", "--all", "in"))
+        ends[status] += 1
+        if status == 0 and len(re.findall(rb"^file /[az] 0644", out, re.M)) == 2:
+            yield "two modes that were not there at one time"
+        elif status not in (0, 3) or status == 3 and not re.fullmatch(rb"file in/[az]\n", said):
+            yield "%d %r" % (status, said)
+    print("one_moment: %s" % dict(ends))
+
+
+@needs_strace
+def pipe_that_takes_a_name(binary):
+    """A scan that looks for programs never opens a FIFO that took the name of a file, so it does not wait."""
+    words = ["scan", "--all", "--align", "4096", "in"]
+
+    def lay():
+        remove("in")
+        os.mkdir("in")
+        put("in/x", b"\x7fELF" + bytes(100))
+        wait_for_clock(".")
+
+    lay()
+    made, _ = traced.calls(binary, *words)
+    for at in looked(made, b"in/x"):
+        lay()
+        with held_at(binary, words, made[at]) as held:
+            os.remove("in/x")
+            os.mkfifo("in/x")
+        if held.answer != (b"", b"file in/x\n", 3):
+            yield "behind %s: %r" % (made[at].text[:60], held.answer)
+
+
 TESTS = [
     each_call_failed, refusal_that_is_not_taken, memory_that_ends, each_write_failed, room_that_ends,
     readers_that_leave, output_into_the_folder, changed_between_calls, moved_between_folders, entry_that_vanishes,
     odd_folders, what_is_no_folder, folders_that_are_forbidden, every_byte, longest_names, deep_from_inside,
     many_entries, greatest_numbers, folder_within_itself, files_of_one_number,
-    manifest_over_its_output, on_one_file_system, folders_that_rest,
+    manifest_over_its_output, on_one_file_system, folders_that_rest, one_moment, pipe_that_takes_a_name,
 ]  # fmt: skip
 
 if __name__ == "__main__":

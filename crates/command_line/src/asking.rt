@@ -405,7 +405,7 @@ fn packed_build<'a>(
     format: Format,
     out: &'a str,
 ) -> Result<Build<'a>, WordsError<'a>>
-    ensures { IfOk result (λ b. (b.format ≡ format) × (b.out ≡ out)
+    ensures { IfOk result (λ b. (b.format ≡ format) × (b.out.now ≡ out.now)
         × IsPackedBuild (rows_of (found_of values.now)) b) }
 {
     let max_size = size_of(values, "max-size")?;
@@ -430,7 +430,7 @@ fn packed_scan<'a>(
     format: Format,
     directories: Vec<&'a str>,
 ) -> Result<ScanAll<'a>, WordsError<'a>>
-    ensures { IfOk result (λ s. (s.format ≡ Some format) × (s.directories ≡ directories)
+    ensures { IfOk result (λ s. (s.format ≡ Some format) × (s.directories ≡ directories.entry)
         × IsPackedScan (rows_of (found_of values.now)) s) }
 {
     let patterns = texts_of(alloc, values, "exclude")?;
