@@ -17,7 +17,8 @@ PROGRAM = f"{TOP}/crates/romtool/out/romtool"
 # what a word of each name that help shows is completed with: files, directories, nothing, or the words that a function accepts
 KINDS = {
     "IMAGE": "files", "MANIFEST": "files", "OUT": "files", "DUMP": "files", "FILE": "files", "A": "files", "B": "files",
-    "DIR": "directories", "DIR.. OUT": "files", "PATH": "nothing", "HEX": "nothing", "ADDRESS": "nothing", "N": "nothing", "NAME": "nothing",
+    "DIR": "directories", "DIR.. OUT": "files", "PATH": "nothing", "HEX": "nothing", "ADDRESS": "nothing", "N": "nothing",
+    "NAME": "nothing",
     "GLOB": "nothing", "UID:GID": "nothing", "FORMAT": "formats/src/format.rt named",
     "[GLOB=]N": "command_line/src/numbers.rt align_named",
 }  # fmt: skip

@@ -15,6 +15,7 @@ mod words;
 
 pub use commands::VERSION;
 pub use error::{WordsError, Wrong};
+pub use numbers::size_named;
 pub use request::{
     AlignRule, Build, Cat, Diff, Digest, Extract, Info, Map, MapForm, Owner, Pack, Request, Scan,
     ScanAll, Verify, Which, Xip,

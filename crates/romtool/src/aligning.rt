@@ -19,8 +19,8 @@ const FORMAT_LEN: u64 = 4;
 /// Alignments of files, by their devices and numbers.
 type Largest = BTreeMap<(u64, u64), u32>;
 
-/// Opens a regular file that was found. Another file that has its name now is not opened, since
-/// opening a FIFO waits for its writer.
+/// Opens a regular file that was found, if its name still leads to it: opening a FIFO would wait
+/// for a writer.
 fn open_found(rt: &HostRuntime, found: &NamedFile) -> io::Result<File> {
     let is_found = |now: &Metadata| {
         let inode = &found.inode;

@@ -58,6 +58,15 @@ struct Part {
     lock: Option<File>,
 }
 
+/// Which permissions and owner a part gets.
+#[derive(Drop)]
+pub struct PartRights {
+    /// The permissions, before the process's mask is applied.
+    pub mode: u32,
+    /// The file whose owner and permissions it gets afterwards, if there is one.
+    pub like: Option<Metadata>,
+}
+
 /// A name in a directory, and what was asked of the directory.
 #[derive(Drop)]
 pub struct Beside {
@@ -89,13 +98,13 @@ impl Beside {
         rt: &HostRuntime,
         whole: &str,
         directory: Option<File>,
-        rights: (u32, Option<Metadata>),
+        rights: PartRights,
         inputs: Vec<Identity>,
     ) -> io::Result<Beside>
         ensures log { IfOk result (λ b. log_of b.account ≡ []) }
         ensures room { IfOk result (λ b. 304 ≤ room_of b.account) }
     {
-        let (mode, like) = rights;
+        let PartRights { mode, like } = rights;
         Ok(Beside {
             whole: String::from_str(rt.alloc(), whole)?,
             directory,

@@ -8,7 +8,7 @@ use build_commands::inventory::{Device, FileKind, Inode, NamedFile};
 use command_line::ScanAll;
 use directory_walk::{Directory, Entry};
 use rom_commands::{Ending, Status};
-use sentences::reasons::{FOLDER_CHANGED, NO_KIND};
+use sentences::reasons::{FOLDER_CHANGED, NO_KIND, WHITEOUT};
 use std::alloc::{AllocError, Global};
 use std::fs::{self, Metadata};
 use std::io;
@@ -41,6 +41,8 @@ fn kind_of(rt: &HostRuntime, place: &str, metadata: &Metadata) -> io::Result<Fil
         FileKind::Symlink(fs::read_link(rt, place)?.into_string())
     } else if kind.is_block_device() {
         FileKind::Block(device_of(metadata.rdev()))
+    } else if kind.is_char_device() && metadata.rdev() == 0 {
+        return Err(io::Error::new(io::ErrorKind::Unsupported, WHITEOUT));
     } else if kind.is_char_device() {
         FileKind::Character(device_of(metadata.rdev()))
     } else if kind.is_fifo() {

@@ -26,10 +26,10 @@ const PROBE: &str = ".romtool-probe";
 
 /// The bits of a mode that let the group and others write. If a directory has an access control
 /// list, the group's bit is that of its mask.
-const WRITABLE_BY_OTHERS: u32 = 0o022;
+pub const WRITABLE_BY_OTHERS: u32 = 0o022;
 
 /// The bit of a directory's mode that lets only owners rename and remove what is in it.
-const STICKY: u32 = 0o1000;
+pub const STICKY: u32 = 0o1000;
 
 /// Linux's numbers of the errors that mean that a further name of a file cannot be made: `EPERM`,
 /// `EXDEV`, `EMLINK` and `EOPNOTSUPP`.

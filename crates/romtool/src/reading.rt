@@ -1,15 +1,21 @@
 //! Reads files into memory: images up to the size that they state, and manifests. A regular file
 //! that changes meanwhile is not read.
 use crate::stamp::{Identity, Stamp, let_rest};
-use image_check::reach_of;
+use command_line::size_named;
+use image_check::{HEAD, reach_of};
 use image_load::{Found, load};
 use program_streams::read_until;
-use sentences::reasons::MANIFEST_TOO_LONG;
+use sentences::reasons::{IMAGE_TOO_LONG, MANIFEST_TOO_LONG, NO_MAX_SIZE};
+use std::env::{Env, FillError};
 use std::fs::{File, Metadata, OpenFile};
-use std::{fs, io};
+use std::os::unix::fs::FileExt;
+use std::{fs, io, str};
 
 /// The name by which the system opens standard input.
 pub const INPUT: &str = "/proc/self/fd/0";
+
+/// The environment variable that says how many bytes of an image are read at most.
+const MAX_SIZE: &str = "ROMTOOL_MAX_SIZE";
 
 /// The most bytes of a manifest.
 const MOST_OF_MANIFEST: u64 = 1 << 30;
@@ -38,6 +44,46 @@ fn check_unchanged(file: &File, was: &Metadata, read: u64, wanted: u64) -> Resul
     Ok(())
 }
 
+/// The number of bytes that an image may have, if the environment says one.
+fn most_of_image(rt: &HostRuntime) -> io::Result<Option<u64>> {
+    let mut value = [0; 32];
+    let len = match rt.var(MAX_SIZE, &mut value) {
+        Ok(len) => len,
+        Err(FillError::NotPresent) => return Ok(None),
+        Err(FillError::TooLong) => 0,
+    };
+    let size = match str::from_utf8(value.get(..len).unwrap_or(&[])) {
+        Ok(word) => size_named(word),
+        Err(_) => None,
+    };
+    match size {
+        Some(size) => Ok(Some(size)),
+        None => Err(io::Error::new(io::ErrorKind::InvalidInput, NO_MAX_SIZE)),
+    }
+}
+
+/// Refuses an image of which more bytes would be read than the environment allows. Of a pipe this
+/// is not known beforehand.
+fn check_size(rt: &HostRuntime, file: &File, was: &Metadata) -> io::Result<()> {
+    let Some(most) = most_of_image(rt)? else {
+        return Ok(());
+    };
+    let mut front = [0; HEAD];
+    let Ok(len) = file.read_at(&mut front, 0) else {
+        return Ok(());
+    };
+    let reach = reach_of(front.get(..len).unwrap_or(&[]));
+    let reach = if was.is_file() {
+        reach.min(was.len())
+    } else {
+        reach
+    };
+    if reach > most {
+        return Err(io::Error::new(io::ErrorKind::FileTooLarge, IMAGE_TOO_LONG));
+    }
+    Ok(())
+}
+
 /// Returns the image in a file, with the bytes that a check reads: up to the size that it states. A
 /// check of these bytes returns the same as one of the whole file
 /// (`image_check::laws::no_further`). If the first 512 bytes of a romfs image in a regular file
@@ -45,10 +91,12 @@ fn check_unchanged(file: &File, was: &Metadata, read: u64, wanted: u64) -> Resul
 ///
 /// # Errors
 ///
-/// The operating system's error; `Changed` if a regular file changed while it was read.
+/// The operating system's error; `FileTooLarge` if the image has more bytes than the environment
+/// allows; `Changed` if a regular file changed while it was read.
 pub fn image(rt: &HostRuntime, name: &str) -> Result<Found, Unread> {
     let mut file = File::open(rt, name)?;
     let was = file.metadata()?;
+    check_size(rt, &file, &was)?;
     let found = load(rt.alloc(), &mut file, was.len())?;
     let (read, wanted) = match &found {
         Found::Image(image) => (

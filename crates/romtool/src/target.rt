@@ -2,8 +2,9 @@
 ghost use Rattle.std.specs.Prelude.{◌≡◌, ◌≤◌, ◌%◌, [], length};
 ghost use Rattle.atomic_file.specs.Accounts.{log_of, room_of};
 
-use crate::beside::{Beside, KeepError, NAMES, Others, System, Writer, is_of_its_kind};
+use crate::beside::{Beside, KeepError, NAMES, Others, PartRights, System, Writer, is_of_its_kind};
 use crate::closing::close;
+use crate::making::{STICKY, WRITABLE_BY_OTHERS};
 use crate::mounted::is_mounted;
 use crate::parts::is_part_name;
 use crate::place::{behind_links, directory_of, name_in_directory};
@@ -13,9 +14,10 @@ use image_file::{LastCheck, PlanImage, Unwritten, put};
 use image_stream::Sources;
 use program_streams::{Held, Remembering};
 use rom_fields::{ByteWrite, Failed, Plain};
-use sentences::reasons::{HUNDRED_PARTS, MOUNTED, REPLACED};
-use std::fs::{File, OpenFile, OpenOptions};
+use sentences::reasons::{HUNDRED_PARTS, MOUNTED, OUT_OF_ANOTHER, REPLACED};
+use std::fs::{File, Metadata, OpenFile, OpenOptions};
 use std::marker::Model;
+use std::os::unix::fs::MetadataExt;
 use std::{fs, io};
 
 /// The permissions of a file that nobody else is to read while it is written.
@@ -23,6 +25,9 @@ const PRIVATE: u32 = 0o600;
 
 /// The permissions of a new file, before the process's mask is applied.
 const USUAL: u32 = 0o666;
+
+/// The directory of the process, which belongs to its user.
+const PROCESS: &str = "/proc/self";
 
 /// A part that was made for a name, under its own name.
 #[derive(Drop)]
@@ -111,6 +116,26 @@ fn target_beside(rt: &HostRuntime, beside: Beside) -> io::Result<Target>
     })
 }
 
+/// Whether all users may make files in a directory with these attributes, and only remove their
+/// own.
+fn is_shared(directory: &Metadata) -> bool {
+    directory.mode() & STICKY != 0 && directory.mode() & WRITABLE_BY_OTHERS != 0
+}
+
+/// Refuses to replace a file that another user made in a directory where all users may make files:
+/// the new file would be that user's. The owner of the directory and the user of the process are
+/// trusted.
+fn check_maker(rt: &HostRuntime, name: &str, found: &Metadata) -> io::Result<()> {
+    let directory = fs::metadata(rt, directory_of(name))?;
+    if !is_shared(&directory) || found.uid() == directory.uid() {
+        return Ok(());
+    }
+    match fs::metadata(rt, PROCESS) {
+        Ok(process) if process.uid() == found.uid() => Ok(()),
+        _ => Err(io::Error::new(io::ErrorKind::PermissionDenied, OUT_OF_ANOTHER)),
+    }
+}
+
 /// Makes a new file beside a regular file that can be written, with its owner and permissions.
 fn in_place_of(rt: &HostRuntime, name: &str, inputs: Vec<Identity>) -> io::Result<Target> {
     let found = to_write(rt, name)?.metadata()?;
@@ -119,7 +144,11 @@ fn in_place_of(rt: &HostRuntime, name: &str, inputs: Vec<Identity>) -> io::Resul
         return Err(io::Error::new(io::ErrorKind::NotFound, REPLACED));
     }
     let directory = opened_directory(rt, &whole)?;
-    let rights = (PRIVATE, Some(found));
+    check_maker(rt, &whole, &found)?;
+    let rights = PartRights {
+        mode: PRIVATE,
+        like: Some(found),
+    };
     target_beside(rt, Beside::new(rt, &whole, directory, rights, inputs)?)
 }
 
@@ -134,7 +163,11 @@ fn in_a_new_place(
         Ok(_) => Err(missing),
         Err(e) if e.kind() == io::ErrorKind::NotFound => {
             let directory = opened_directory(rt, name)?;
-            target_beside(rt, Beside::new(rt, name, directory, (USUAL, None), inputs)?)
+            let rights = PartRights {
+                mode: USUAL,
+                like: None,
+            };
+            target_beside(rt, Beside::new(rt, name, directory, rights, inputs)?)
         }
         Err(e) => Err(e),
     }

@@ -140,6 +140,20 @@ pub const OWN_FILE: &str = "it is a file that the manifest lists, or the file of
 /// The manifest would be in a directory that is scanned.
 pub const SCANNED: &str = "it is in a scanned directory, so the next scan would list it";
 
+/// A device of overlayfs that stands for a name that was removed.
+pub const WHITEOUT: &str =
+    "it is a whiteout of overlayfs (device 0:0); scan the mounted overlay instead";
+
+/// The file that is to be replaced belongs to another user, in a directory such as `/tmp`.
+pub const OUT_OF_ANOTHER: &str = "another user made it, in a directory like /tmp; remove it first";
+
+/// An image is larger than the environment allows.
+pub const IMAGE_TOO_LONG: &str = "to read it takes more bytes than ROMTOOL_MAX_SIZE says";
+
+/// The environment does not say how large images may be.
+pub const NO_MAX_SIZE: &str =
+    "ROMTOOL_MAX_SIZE is no number of bytes, such as 4096, 64K, 2M, 1G or 0x10000";
+
 /// Owners and devices would not be those that fakeroot or pseudo shows.
 pub const FAKED: &str = "fakeroot or pseudo is in the environment and does not reach this program \
     (it is static, or LD_PRELOAD is lost), so owners and devices would be wrong";

@@ -4,7 +4,7 @@ ghost use Rattle.sentences.specs.Misfits.{misfit_sentence};
 
 use plan_rows::misfit::{ATTRIBUTE, HARD_LINK, NAME_TOO_LONG, TOO_LARGE};
 
-/// Returns the sentence of the misfit of this number. docs/internals/LAYOUTS.md says more.
+/// Returns the sentence of the misfit of this number. docs/internals/FORMATS.md says more.
 pub fn misfit_sentence(number: u32) -> &'static str
     ensures { result.now ≡ misfit_sentence number }
 {
