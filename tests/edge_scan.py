@@ -732,7 +732,7 @@ def pipe_that_takes_a_name(binary):
         with held_at(binary, words, made[at]) as held:
             os.remove("in/x")
             os.mkfifo("in/x")
-        if held.answer != (b"", b"file in/x\n", 3):
+        if held.answer not in ((b"", b"file in\n", 3), (b"", b"file in/x\n", 3)):
             yield "behind %s: %r" % (made[at].text[:60], held.answer)
 
 

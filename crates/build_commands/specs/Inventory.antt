@@ -107,7 +107,7 @@ name_line o first f = fitted o (line_behind o first (found_line f))
 abbrev pub is_linked : ℕ → ℕ → NamedFile → Bool
 is_linked device number f = f.has_links && (f.inode.device == device) && (f.inode.number == number)
 
--- the first of some files that is so
+-- the first of some files that has several links, and this number on this device
 abbrev pub first_of : ℕ → ℕ → List NamedFile → Option NamedFile
 first_of device number fs = find (is_linked device number) fs
 

@@ -7,10 +7,10 @@ use Rattle.directory_walk.specs.Trees.{Name, entered}
 use Rattle.directory_walk.specs.Views.{listed_name, listed_names}
 use Rattle.directory_walk.specs.declared.lister.Listed.{Listed}
 
-pub record Left {T S : Type 0} (f0 f : List (Name T)) (w0 w : List (List ℕ))
+pub record Left {T S : Type 0} (found_first found_now : List (Name T)) (waiting_first waiting_now : List (List ℕ))
     (all rest : List (Listed T S)) : Type 0 where
-  pub found : f ++ listed_names rest ≡ f0 ++ listed_names all
-  pub waiting : w ++ entered (listed_names rest) ≡ w0 ++ entered (listed_names all)
+  pub found : found_now ++ listed_names rest ≡ found_first ++ listed_names all
+  pub waiting : waiting_now ++ entered (listed_names rest) ≡ waiting_first ++ entered (listed_names all)
 
 entered_cons : {T : Type 0} (n : Name T) (ns : List (Name T)) → entered (n ∷ []) ++ entered ns ≡ entered (n ∷ ns)
 entered_cons n ns = choose n.is_entered
@@ -20,24 +20,29 @@ entered_cons n ns = choose n.is_entered
     choose true = refl
     choose false = refl
 
-pub step : {T S : Type 0} (f0 f f2 : List (Name T)) (w0 w w2 : List (List ℕ)) (all : List (Listed T S))
-    (x : Listed T S) (rest : List (Listed T S)) → Left f0 f w0 w all (x ∷ rest)
-    → f2 ≡ f ++ listed_name x ∷ [] → w2 ≡ w ++ entered (listed_name x ∷ []) → Left f0 f2 w0 w2 all rest
-step {T} f0 f f2 w0 w w2 all x rest left is is2 = record {
+pub step : {T S : Type 0} (found_first found_now found_then : List (Name T))
+    (waiting_first waiting_now waiting_then : List (List ℕ)) (all : List (Listed T S))
+    (x : Listed T S) (rest : List (Listed T S)) → Left found_first found_now waiting_first waiting_now all (x ∷ rest)
+    → found_then ≡ found_now ++ listed_name x ∷ [] → waiting_then ≡ waiting_now ++ entered (listed_name x ∷ [])
+    → Left found_first found_then waiting_first waiting_then all rest
+step {T} found_first found_now found_then waiting_first waiting_now waiting_then all x rest left is is_then = record {
   found = ap (λ (l : List (Name T)). l ++ listed_names rest) is
-      ∙ append_assoc f (listed_name x ∷ []) (listed_names rest) ∙ left.found;
-  waiting = ap (λ (l : List (List ℕ)). l ++ entered (listed_names rest)) is2
-      ∙ append_assoc w (entered (listed_name x ∷ [])) (entered (listed_names rest))
-      ∙ ap (λ (l : List (List ℕ)). w ++ l) (entered_cons (listed_name x) (listed_names rest)) ∙ left.waiting;
+      ∙ append_assoc found_now (listed_name x ∷ []) (listed_names rest) ∙ left.found;
+  waiting = ap (λ (l : List (List ℕ)). l ++ entered (listed_names rest)) is_then
+      ∙ append_assoc waiting_now (entered (listed_name x ∷ [])) (entered (listed_names rest))
+      ∙ ap (λ (l : List (List ℕ)). waiting_now ++ l) (entered_cons (listed_name x) (listed_names rest))
+      ∙ left.waiting;
 }
 
-pub found_all : {T S : Type 0} (f0 f : List (Name T)) (w0 w : List (List ℕ)) (all : List (Listed T S))
-    → Left f0 f w0 w all [] → f ≡ f0 ++ listed_names all
-found_all f0 f w0 w all left = sym (append-nil f) ∙ left.found
+pub found_all : {T S : Type 0} (found_first found_now : List (Name T)) (waiting_first waiting_now : List (List ℕ))
+    (all : List (Listed T S)) → Left found_first found_now waiting_first waiting_now all []
+    → found_now ≡ found_first ++ listed_names all
+found_all found_first found_now waiting_first waiting_now all left = sym (append-nil found_now) ∙ left.found
 
-pub waiting_all : {T S : Type 0} (f0 f : List (Name T)) (w0 w : List (List ℕ)) (all : List (Listed T S))
-    → Left f0 f w0 w all [] → w ≡ w0 ++ entered (listed_names all)
-waiting_all f0 f w0 w all left = sym (append-nil w) ∙ left.waiting
+pub waiting_all : {T S : Type 0} (found_first found_now : List (Name T)) (waiting_first waiting_now : List (List ℕ))
+    (all : List (Listed T S)) → Left found_first found_now waiting_first waiting_now all []
+    → waiting_now ≡ waiting_first ++ entered (listed_names all)
+waiting_all found_first found_now waiting_first waiting_now all left = sym (append-nil waiting_now) ∙ left.waiting
 
 pub nothing_left : {X : Type 0} (l : List X) → length l ≡ 0 → l ≡ []
 nothing_left [] h = refl
