@@ -69,7 +69,7 @@ def try_words(counts):
     """`./test` and the tools say what their words are, and do nothing, at words that they do not have."""
     top = os.path.dirname(TOOLS)
     for words, status in ((["test", "--help"], 0), (["test", "--fast"], 2), (["test", "--quick", "--complete"], 2),
-                          (["tools/library", "--help"], 0), (["tools/edits", "--help"], 2), (["tools/unproved", "--help"], 2),
+                          (["tools/library", "--help"], 0), (["tools/edits", "--help"], 0), (["tools/unproved", "--help"], 2),
                           (["tools/install", "--help"], 0), (["tools/release", "--help"], 0), (["tools/completions.py"], 2),
                           (["tools/rom32", "--help"], 0), (["tools/rom32"], 2), (["tools/rom32", "i386"], 2),
                           (["tools/page", "--help"], 0), (["tools/manual", "--help"], 0),
