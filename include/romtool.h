@@ -12,7 +12,7 @@
  * The caller has to keep these rules, which no call can check:
  *   1. A struct romtool_image or romtool_file is all zeros, as ROMTOOL_INIT leaves it, or only this library has written
  *      it. Its fields may be read. (Numbers that romtool_check returned for exactly the same bytes may be put back.)
- *   2. A call on the same image returned each node number that is passed to romtool_stat_node or romtool_open_node.
+ *   2. A call on the same image returned each node number that is passed to a call, or romtool_is_node is true of it.
  *   3. The bytes with which an image was checked stay unchanged and at their address as long as a struct of the image,
  *      or a pointer to the bytes, is used.
  * As for any C function, a pointer has to point to as many bytes as its length says (NULL with 0 is allowed), and what
@@ -43,7 +43,7 @@
 #define ROMTOOL_VERSION 20000 /* 10000 * major + 100 * minor + patch */
 #define ROMTOOL_VERSION_TEXT "2.0.0"
 
-/* Whether pointers have 32 bits. Seven functions then return their results through a pointer, behind wrappers. */
+/* Whether pointers have 32 bits. Nine functions then return their results through a pointer, behind wrappers. */
 #if UINTPTR_MAX <= 0xffffffffu
 #define ROMTOOL_32 1
 #else
@@ -224,6 +224,40 @@ static inline struct romtool_stat romtool_stat_node(const struct romtool_image *
 struct romtool_stat romtool_stat_node(const struct romtool_image *image, uint32_t node);
 #endif
 
+/* Returns whether a number is that of a node, so that numbers from elsewhere can be tried: of handles, for example. The
+ * time grows with the number of references of the image. If no image is open, no number is. */
+bool romtool_is_node(const struct romtool_image *image, uint32_t node);
+
+/* Returns the node of the entry with exactly this name, one component, in the directory with this node number (rule 2).
+ * No entry is named `.` or `..`, and no link is followed. Errors: ROMTOOL_CLOSED, _ENOTDIR if the node is not a directory,
+ * _ENOENT. */
+#if ROMTOOL_32
+void rom32_lookup_at(struct romtool_node *answer, const struct romtool_image *image, uint32_t directory,
+    const uint8_t *name, romtool_size len);
+static inline struct romtool_node romtool_lookup_at(const struct romtool_image *image, uint32_t directory,
+    const uint8_t *name, romtool_size len) {
+    struct romtool_node answer;
+    rom32_lookup_at(&answer, image, directory, name, len);
+    return answer;
+}
+#else
+struct romtool_node romtool_lookup_at(const struct romtool_image *image, uint32_t directory, const uint8_t *name,
+    romtool_size len);
+#endif
+
+/* Returns where the text of the symbolic link with this node number is (rule 2). There is no look-up. Errors:
+ * ROMTOOL_CLOSED, and _EINVAL if the node is not a link. */
+#if ROMTOOL_32
+void rom32_readlink_node(struct romtool_place *answer, const struct romtool_image *image, uint32_t node);
+static inline struct romtool_place romtool_readlink_node(const struct romtool_image *image, uint32_t node) {
+    struct romtool_place answer;
+    rom32_readlink_node(&answer, image, node);
+    return answer;
+}
+#else
+struct romtool_place romtool_readlink_node(const struct romtool_image *image, uint32_t node);
+#endif
+
 /* Returns where the text of the symbolic link is to which a path leads. Errors: those of romtool_lookup, and
  * ROMTOOL_EINVAL if it is not a link. */
 #if ROMTOOL_32
@@ -296,6 +330,31 @@ uint32_t romtool_seek(struct romtool_file *file, uint64_t position);
 /* The next entry of an open directory, without `.` and `..`, with its kind. Gives 0 or the error: ROMTOOL_EBADF,
  * _ENOTDIR. To begin again, open it again. */
 uint32_t romtool_readdir(struct romtool_file *file, struct romtool_entry *entry);
+
+/* Returns an error of a path or of an open file as Linux numbers it in errno.h, and EIO (5) for a fault, for no open image
+ * and for a budget that is used up. */
+static inline int romtool_errno(uint32_t error) {
+    switch (error) {
+    case ROMTOOL_OK: return 0;
+    case ROMTOOL_ENOENT: return 2;
+    case ROMTOOL_ENOTDIR: return 20;
+    case ROMTOOL_ELOOP: return 40;
+    case ROMTOOL_ENAMETOOLONG: return 36;
+    case ROMTOOL_EINVAL: return 22;
+    case ROMTOOL_EBADF: return 9;
+    case ROMTOOL_EISDIR: return 21;
+    case ROMTOOL_ENXIO: return 6;
+    case ROMTOOL_ERANGE: return 34;
+    case ROMTOOL_MEMORY: return 12;
+    default: return 5;
+    }
+}
+
+/* Returns a kind and permissions as `st_mode` has them in Linux; the kind bits are 0 if `kind` is no kind. */
+static inline uint32_t romtool_st_mode(uint32_t kind, uint32_t mode) {
+    static const uint32_t kinds[] = {0, 0040000, 0100000, 0120000, 0060000, 0020000, 0140000, 0010000};
+    return (kind < sizeof kinds / sizeof *kinds ? kinds[kind] : 0) | (mode & 07777);
+}
 
 /* Returns the version of this header as text. */
 static inline const char *romtool_version(void) {

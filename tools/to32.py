@@ -21,8 +21,8 @@ import re
 # the bytes of what a pair may have, as 64 bits have them
 SIZES = {"i1": 1, "i8": 1, "i16": 2, "i32": 4, "i64": 8, "ptr": 8}
 EXPORTS = (
-    "check", "lookup", "lookup_within", "stat", "stat_node", "readlink", "open", "open_node", "fstat", "map", "lend", "read", "seek",
-    "readdir",
+    "check", "lookup", "lookup_within", "lookup_at", "stat", "stat_node", "readlink", "readlink_node", "is_node", "open", "open_node",
+    "fstat", "map", "lend", "read", "seek", "readdir",
 )  # fmt: skip
 # those that answer by a struct of more than 16 bytes
 THROUGH = ("stat", "stat_node", "fstat")
@@ -227,7 +227,7 @@ class Pass:
         if not found:
             raise Refused(f"no export romtool_{name}")
         kind = found[1].replace("noundef ", "").strip()
-        if kind == "i32":
+        if kind in ("i32", "zeroext i1"):
             return
         given = split(found[2].replace("noundef ", ""))
         if not all(re.fullmatch(rf"(?:ptr|i64|i32|i1) {VALUE}", it) for it in given):

@@ -99,10 +99,27 @@ export class Reader {
     return this.answeredPlace();
   }
 
+  // The same by the number of a node, without a look-up.
+  statNode(node) {
+    this.calls.rom32_stat_node(this.base + ANSWER, this.base, node);
+    return this.answeredStat();
+  }
+
+  readlinkNode(node) {
+    this.calls.rom32_readlink_node(this.base + ANSWER, this.base, node);
+    return this.answeredPlace();
+  }
+
   // An open file is kept as the bytes of its struct, and is put back for each call.
   open(path) {
     const at = this.base + ANSWER;
     const error = this.calls.romtool_open(at, this.base, this.base + PATH, this.path(path));
+    return { error, held: this.bytes.slice(at, at + 64) };
+  }
+
+  openNode(node) {
+    const at = this.base + ANSWER;
+    const error = this.calls.romtool_open_node(at, this.base, node);
     return { error, held: this.bytes.slice(at, at + 64) };
   }
 
@@ -151,9 +168,8 @@ export class Reader {
     return { error, entry: { name: this.bytes.slice(name, name + len), at: name - this.data, node, kind } };
   }
 
-  // The entries of a directory, one after the other.
-  *entries(path) {
-    const file = this.open(path);
+  // The entries of an open directory, one after the other.
+  *entries(file) {
     if (file.error) throw new Error(`error ${file.error} of a directory`);
     for (;;) {
       const { error, entry } = this.readdir(file);

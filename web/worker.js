@@ -44,8 +44,8 @@ function around(at, size) {
 }
 
 function row(path, entry) {
-  const whole = joined(path, entry.name), stat = reader.stat(whole, false);
-  const link = stat.kind === 3 ? shown(reader.readlink(whole).bytes) : null;
+  const whole = joined(path, entry.name), stat = reader.statNode(entry.node);
+  const link = stat.kind === 3 ? shown(reader.readlinkNode(entry.node).bytes) : null;
   return { name: shown(entry.name), path: whole, stat, link };
 }
 
@@ -53,7 +53,7 @@ function row(path, entry) {
 function entries(path, count, anew) {
   const key = escaped(path), found = [];
   if (anew || !rows.has(key)) {
-    const coming = reader.entries(path);
+    const coming = reader.entries(reader.open(path));
     rows.set(key, { coming, next: coming.next() });
   }
   const held = rows.get(key);
@@ -63,9 +63,9 @@ function entries(path, count, anew) {
   return { rows: found, more: !held.next.done };
 }
 
-// The runs of a regular file's bytes in the image.
-function runs(path) {
-  const file = reader.open(path), found = [];
+// The runs of an open file's bytes in the image.
+function runs(file) {
+  const found = [];
   for (;;) {
     const { at, len, error } = reader.lend(file, Number.MAX_SAFE_INTEGER);
     if (error || len === 0) return found;
@@ -76,14 +76,14 @@ function runs(path) {
 
 // A file's runs and its first bytes.
 function details(path) {
-  const found = runs(path), first = found[0];
+  const found = runs(reader.open(path)), first = found[0];
   const from = reader.data + (first?.at ?? 0), bytes = reader.bytes.slice(from, from + Math.min(first?.len ?? 0, SHOWN));
   return { runs: found.slice(0, 1000), count: found.length, bytes };
 }
 
 // All bytes of a file, as parts of the image.
 function contents(path) {
-  return runs(path).map(({ at, len }) => reader.bytes.slice(reader.data + at, reader.data + at + len));
+  return runs(reader.open(path)).map(({ at, len }) => reader.bytes.slice(reader.data + at, reader.data + at + len));
 }
 
 // Goes on with the walk through the tree, and tells which bytes are whose.
@@ -92,7 +92,7 @@ function pieces() {
   const found = [], add = (at, len, what, path) => { if (len) found.push([at, len, what, path]); };
   const kinds = walk.count.kinds, root = new Uint8Array([47]);
   if (walk.first) {
-    walk.open.push({ path: root, coming: reader.entries(root) });
+    walk.open.push({ path: root, coming: reader.entries(reader.open(root)) });
     kinds[1]++;
     walk.first = false;
   }
@@ -102,14 +102,14 @@ function pieces() {
     const { path, coming } = walk.open.at(-1), { value: entry, done } = coming.next();
     if (done) { walk.open.pop(); continue; }
     seen++;
-    const whole = joined(path, entry.name), name = shown(whole), stat = reader.stat(whole, false);
+    const { node } = entry, whole = joined(path, entry.name), name = shown(whole), stat = reader.statNode(node);
     kinds[stat.kind]++;
     add(entry.at, entry.name.length, "name", name);
-    if (stat.kind === 1) walk.open.push({ path: whole, coming: reader.entries(whole) });
-    if (stat.kind === 3) { const { at, len } = reader.readlink(whole); add(at, len, "link", name); }
+    if (stat.kind === 1) walk.open.push({ path: whole, coming: reader.entries(reader.openNode(node)) });
+    if (stat.kind === 3) { const { at, len } = reader.readlinkNode(node); add(at, len, "link", name); }
     if (stat.kind === 2) {
       walk.count.bytes += stat.size;
-      for (const { at, len } of runs(whole)) add(at, len, "data", name);
+      for (const { at, len } of runs(reader.openNode(node))) add(at, len, "data", name);
     }
   }
   return { found, seen, more: walk.open.length > 0, count: walk.count };

@@ -81,14 +81,22 @@ static void list(const struct romtool_image *image, size_t len, uint32_t node) {
     escaped(path, whole);
     if (stat.kind == ROMTOOL_SYMLINK) {
         const struct romtool_place text = romtool_readlink(image, path, whole);
+        const struct romtool_place same = romtool_readlink_node(image, node);
         wants(text.error == 0 && text.len == stat.size, "a link without its text");
+        wants(same.error == 0 && same.at == text.at && same.len == text.len, "a node whose text differs from that of its path");
         putchar(' ');
         escaped(bytes_of(image, text), (size_t)text.len);
+    } else {
+        wants(romtool_readlink_node(image, node).error == ROMTOOL_EINVAL, "a text of a node that is no link");
     }
     putchar('\n');
     if (stat.kind != ROMTOOL_DIRECTORY) {
+        wants(romtool_lookup_at(image, node, path, 1).error == ROMTOOL_ENOTDIR, "a name in a node that is no directory");
         return;
     }
+    wants(romtool_lookup_at(image, node, (const uint8_t *)".", 1).error == ROMTOOL_ENOENT, "an entry that is a dot");
+    wants(romtool_lookup_at(image, node, NULL, 0).error == ROMTOOL_ENOENT, "an entry without a name");
+    wants(romtool_is_node(image, node) && !romtool_is_node(image, node + 1), "a number that is a node, or none");
     wants(romtool_open_node(&dir, image, node) == 0, "a directory that is not opened");
     wants(romtool_open(&by_path, image, path, whole) == 0 && by_path.node == dir.node && by_path.position == dir.position,
         "a directory that its path opens otherwise");
@@ -99,6 +107,8 @@ static void list(const struct romtool_image *image, size_t len, uint32_t node) {
         }
         wants(is_in_image(image, &entry), "a name outside of the image");
         wants(romtool_stat_node(image, entry.node).kind == entry.kind, "an entry of another kind");
+        const struct romtool_node found = romtool_lookup_at(image, node, entry.name, entry.name_len);
+        wants(found.error == 0 && found.node == entry.node, "an entry that its name does not find");
         path[len] = '/';
         memcpy(path + len + 1, entry.name, (size_t)entry.name_len);
         list(image, len + 1 + (size_t)entry.name_len, entry.node);

@@ -23,9 +23,12 @@ function list(path) {
   if (stat.error) throw new Error("a listed name leads nowhere");
   out.push(`${statLine(stat)} ${escaped(path)}${stat.kind === 3 ? " " + escaped(reader.readlink(path).bytes) : ""}`);
   if (stat.kind === 1) {
-    for (const entry of reader.entries(path)) {
+    for (const entry of reader.entries(reader.open(path))) {
       const whole = joined(path, entry.name);
-      if (reader.stat(whole, false).kind !== entry.kind) throw new Error("an entry of another kind");
+      const stat = reader.stat(whole, false), node = reader.statNode(entry.node);
+      if (stat.kind !== entry.kind || statLine(stat) !== statLine(node)) throw new Error("an entry of another kind");
+      if (stat.kind === 3 && reader.readlink(whole).at !== reader.readlinkNode(entry.node).at) throw new Error("another text");
+      if (stat.kind !== 3 && !reader.readlinkNode(entry.node).error) throw new Error("a text of what is no link");
       list(whole);
     }
   }

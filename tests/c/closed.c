@@ -43,6 +43,10 @@ static void no_image(const struct romtool_image *image, const uint8_t *path, siz
     wants(romtool_open(&file, image, path, len) == ROMTOOL_CLOSED, "open without an image");
     wants(file.error == ROMTOOL_CLOSED && file.node == 0 && file.position == 0, "a file without an image");
     wants(is_no_stat(romtool_stat_node(image, 32), ROMTOOL_CLOSED), "stat of a node without an image");
+    const struct romtool_node at = romtool_lookup_at(image, 32, path, len);
+    wants(at.error == ROMTOOL_CLOSED && at.node == 0, "lookup in a node without an image");
+    wants(is_no_place(romtool_readlink_node(image, 32), ROMTOOL_CLOSED), "readlink of a node without an image");
+    wants(!romtool_is_node(image, 32) && !romtool_is_node(image, 0), "a node without an image");
     wants(romtool_open_node(&file, image, 32) == ROMTOOL_CLOSED, "open of a node without an image");
     wants(file.error == ROMTOOL_CLOSED && file.node == 0 && file.position == 0, "a file of a node without an image");
 }

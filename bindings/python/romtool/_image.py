@@ -131,6 +131,12 @@ class Entry(Generic[AnyStr]):
         held = self._image._open()
         return _stat_of(held.library.romtool_stat_node(held.raw, self.number), self.path)
 
+    def readlink(self) -> AnyStr:
+        """Returns the text of the symbolic link, without a look-up. Raises OSError with EINVAL if it is no link."""
+        held = self._image._open()
+        place = held.library.romtool_readlink_node(held.raw, self.number)
+        return _like(bytes(held.lent(place, self.path)), self.path)
+
     def __fspath__(self) -> AnyStr:
         return self.path
 
@@ -245,12 +251,8 @@ class Image:
 
     def readlink(self, path: Union[AnyStr, os.PathLike[AnyStr]], budget: Optional[Budget] = None) -> AnyStr:
         """Returns the text of a symbolic link, of the type of the path. Raises OSError with EINVAL if it is no link."""
-        held, text = self._open(), _bytes_of(path)
-        if budget is not None:
-            self.lookup(path, False, budget)
-        place = held.library.romtool_readlink(held.raw, text, len(text))
-        given = os.fspath(path)
-        return _like(bytes(held.lent(place, given)), given)
+        held, number, given = self._open(), self.lookup(path, False, budget), os.fspath(path)
+        return _like(bytes(held.lent(held.library.romtool_readlink_node(held.raw, number), given)), given)
 
     def scandir(
         self, path: Union[AnyStr, os.PathLike[AnyStr]] = "/", budget: Optional[Budget] = None  # type: ignore[assignment]

@@ -81,6 +81,10 @@ class Images(unittest.TestCase):
         self.assertTrue(led.is_file() and led.size == 6 and led.number == image.lookup("/etc/motd"))
         self.assertEqual((image.readlink("/message"), image.readlink(b"/message")), ("etc/motd", b"etc/motd"))
         self.assertEqual((image.exists("/etc"), image.exists("/none")), (True, False))
+        entries = {it.name: it for it in image.scandir("/")}
+        self.assertEqual(entries["message"].readlink(), "etc/motd")
+        with self.assertRaisesRegex(OSError, "invalid argument: '/etc'"):
+            entries["etc"].readlink()
 
     def test_errors_of_paths(self):
         image = self.image
@@ -319,8 +323,9 @@ class Libraries(unittest.TestCase):
         nothing = romtool._library.RawStat()
         nothing.error = 13
         other = types.SimpleNamespace(**{it: lambda *_: nothing for it in romtool._library.CALLS})
-        other.romtool_readlink = lambda *_: romtool._library.RawPlace(13, 0, 0)
-        other.romtool_lookup = lambda *_: romtool._library.RawNode(13, 0)
+        other.romtool_readlink = other.romtool_readlink_node = lambda *_: romtool._library.RawPlace(13, 0, 0)
+        other.romtool_lookup = other.romtool_lookup_at = lambda *_: romtool._library.RawNode(13, 0)
+        other.romtool_is_node = lambda *_: False
         other.romtool_open, other.romtool_readdir, other.romtool_check = ((lambda *_: 13), (lambda *_: 6), (lambda *_: 0))
         with self.assertRaisesRegex(romtool.LibraryError, "does not answer"):
             romtool._library._probe(other, "other")

@@ -45,6 +45,9 @@ fn list(image: &Image<'_>, path: &[u8], out: &mut dyn Write) -> Result<(), Box<d
             if metadata != image.symlink_metadata(&below)? || metadata.kind != entry.kind() {
                 return Err("an entry is not what its path leads to".into());
             }
+            if metadata.is_symlink() && entry.read_link()? != image.read_link(&below)? {
+                return Err("a link has another text than its path".into());
+            }
             if entry.metadata().is_dir() && entry.read_dir()?.count() != image.read_dir(&below)?.count() {
                 return Err("an entry is opened otherwise than by its path".into());
             }

@@ -185,6 +185,28 @@ impl<'a> Entry<'a> {
         Metadata::of(&unsafe { raw::romtool_stat_node(&self.image.raw(), self.node) }).expect("the image is open")
     }
 
+    /// Returns the text of the symbolic link, as a part of the image, without a look-up.
+    ///
+    /// # Errors
+    ///
+    /// It is no symbolic link ([`Error::Invalid`]).
+    pub fn read_link(&self) -> Result<&'a [u8], Error> {
+        self.image.place(&unsafe { raw::romtool_readlink_node(&self.image.raw(), self.node) })
+    }
+
+    /// Returns the number of the node of the entry of this name in this directory. No entry is named `.` or `..`.
+    ///
+    /// # Errors
+    ///
+    /// It is not a directory ([`Error::NotADirectory`]), or has no such entry ([`Error::NotFound`]).
+    pub fn lookup(&self, name: &[u8]) -> Result<u32, Error> {
+        let found = unsafe { raw::romtool_lookup_at(&self.image.raw(), self.node, name.as_ptr(), name.len() as u64) };
+        match found.error {
+            0 => Ok(found.node),
+            error => Err(Error::of(error)),
+        }
+    }
+
     /// Opens the entry as a regular file, without a look-up.
     ///
     /// # Errors

@@ -96,7 +96,9 @@ extern "C" {
     ) -> Node;
     pub(crate) fn romtool_stat(image: *const Image, path: *const u8, len: u64, follow: bool) -> Stat;
     pub(crate) fn romtool_stat_node(image: *const Image, node: u32) -> Stat;
+    pub(crate) fn romtool_lookup_at(image: *const Image, directory: u32, name: *const u8, len: u64) -> Node;
     pub(crate) fn romtool_readlink(image: *const Image, path: *const u8, len: u64) -> Place;
+    pub(crate) fn romtool_readlink_node(image: *const Image, node: u32) -> Place;
     pub(crate) fn romtool_open(file: *mut File, image: *const Image, path: *const u8, len: u64) -> u32;
     pub(crate) fn romtool_open_node(file: *mut File, image: *const Image, node: u32) -> u32;
     pub(crate) fn romtool_fstat(file: *const File) -> Stat;

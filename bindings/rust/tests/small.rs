@@ -50,6 +50,12 @@ fn errors_of_paths() {
     budget = 7;
     assert_eq!((image.lookup_within("/none", &mut budget), budget), (Err(Error::NotFound), 4));
     assert_eq!(image.read_link("/etc"), Err(Error::Invalid));
+    let entries: Vec<_> = image.read_dir("/").unwrap().collect();
+    let (etc, message) = (entries[0], entries[1]);
+    assert_eq!(etc.lookup(b"motd"), image.lookup("/etc/motd"));
+    assert_eq!((etc.lookup(b"none"), etc.lookup(b".")), (Err(Error::NotFound), Err(Error::NotFound)));
+    assert_eq!(message.lookup(b"motd"), Err(Error::NotADirectory));
+    assert_eq!((message.read_link(), etc.read_link()), (Ok(b"etc/motd".as_slice()), Err(Error::Invalid)));
     assert_eq!(image.open("/etc").unwrap_err(), Error::IsADirectory);
     assert_eq!(image.open("/null").unwrap_err(), Error::IsASpecialFile);
     assert_eq!(image.read_dir("/etc/motd").unwrap_err(), Error::NotADirectory);

@@ -20,7 +20,7 @@ use Rattle.rom_c.specs.Opened.{stands_in}
 use Rattle.rom_c.specs.Outcomes.{IsCopied, IsEntryOf, IsListed}
 use Rattle.rom_c.specs.Files.{IsOpenAt, IsOpenedBy, MovesTo, file_in, file_at}
 
-IsTextAt-prop : (y : Node) (x : RomtoolPlace) (b : Bool) → IsProp (IsTextAt y x b)
+pub IsTextAt-prop : (y : Node) (x : RomtoolPlace) (b : Bool) → IsProp (IsTextAt y x b)
 IsTextAt-prop y x true = Prim.hlevel props
 IsTextAt-prop y x false = Prim.hlevel props
 

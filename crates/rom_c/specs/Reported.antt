@@ -1,13 +1,14 @@
--- The reports to C about a path: `led_reported`, `within_reported`, `shown_reported`, `IsText`.
--- `no_node`, `no_stat`, `no_place`: all except the error is 0. (This project's own.)
+-- The reports to C about a path: `led_reported`, `within_reported`, `shown_reported`, `IsText`; and
+-- about a node: `stat_reported`, `entry_reported`, `IsTextAt`. `no_node`, `no_stat`, `no_place`: all
+-- except the error is 0. (This project's own.)
 use Rattle.std.specs.Prelude.{◌≡◌, ℕ, ◌+◌, ◌<◌, nat_lt, Bool, true, false, length, slice_index}
-use Rattle.std.specs.Prelude.{Result, Ok, Err, if◌then◌else◌}
+use Rattle.std.specs.Prelude.{List, Option, Some, None, Result, Ok, Err, if◌then◌else◌}
 use Rattle.rom_tree.specs.declared.types.Kind.{Kind}
 use Rattle.rom_tree.specs.declared.types.Kind.TheVariants.{Directory, Regular, Symlink, Block}
 use Rattle.rom_tree.specs.declared.types.Kind.TheVariants.{Character, Socket, Fifo}
 use Rattle.rom_tree.specs.declared.types.Stat.{Stat}
-use Rattle.rom_tree.specs.Tree.{Node, ino_of, is_link, places_of}
-use Rattle.rom_tree.specs.Image.{stat_of}
+use Rattle.rom_tree.specs.Tree.{Node, entries_of, ino_of, is_directory, is_link, places_of}
+use Rattle.rom_tree.specs.Image.{find_entry, stat_of}
 use Rattle.path_walk.specs.declared.error.WalkError.{WalkError}
 use Rattle.path_walk.specs.Errors.{error_number}
 use Rattle.rom_c.specs.declared.answers.RomtoolNode.{RomtoolNode}
@@ -65,6 +66,16 @@ led_reported (Err e) = no_node (error_number e)
 -- the same, if a look-up compares no more names than a budget; otherwise the error is 16
 abbrev pub within_reported : ℕ → ℕ → RomtoolNode → RomtoolNode
 within_reported budget names r = if nat_lt budget names then no_node 16 else r
+
+-- the node of an entry, or the error 1 if there is none
+abbrev pub found_reported : Option Node → RomtoolNode
+found_reported None = no_node 1
+found_reported (Some x) = record { error = 0; node = ino_of x }
+
+-- the node of the first entry of this name in a directory; of another node the error is 2
+abbrev pub entry_reported : Node → List ℕ → RomtoolNode
+entry_reported x name =
+    if is_directory x then found_reported (find_entry (entries_of x) name) else no_node 2
 
 -- the kind and numbers of that node, or the error
 abbrev pub shown_reported : Result Node WalkError → RomtoolStat

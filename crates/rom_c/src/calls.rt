@@ -1,17 +1,23 @@
-//! Calls by paths, on an image that is open.
+//! Calls by paths and by nodes, on an image that is open.
 ghost use Rattle.std.specs.Prelude.{◌≡◌, ◌≤◌, ◌-◌, false, Some};
-ghost use Rattle.rom_tree.specs.Tree.{Node, IsShallow};
+ghost use Rattle.rom_tree.specs.Tree.{Node, IsShallow, is_link};
 ghost use Rattle.rom_tree.specs.Image.{HasNode, image_node, stat_of};
 ghost use Rattle.path_walk.specs.Resolution.{resolution, tree_namespace};
 ghost use Rattle.path_walk.specs.Compared.{names_compared};
 ghost use Rattle.image_check.specs.Any.{any_view};
-ghost use Rattle.rom_c.specs.Reported.{IsText, led_reported, within_reported, shown_reported};
-ghost use Rattle.rom_c.specs.Reported.{stat_reported};
+ghost use Rattle.rom_c.specs.Reported.{IsText, IsTextAt, entry_reported, led_reported};
+ghost use Rattle.rom_c.specs.Reported.{within_reported, shown_reported, stat_reported};
 
 use crate::answers::{RomtoolNode, RomtoolPlace, RomtoolStat, no_node, no_place, no_stat, shown};
 use image_check::AnyImage;
 use path_walk::{WithinError, walk, walk_within};
-use rom_tree::{NodeId, TreeImage, is_link_at};
+use rom_tree::{NodeId, TreeImage, is_directory_at, is_link_at};
+
+/// The error: a directory has no entry of the name.
+const NO_ENTRY: u32 = 1;
+
+/// The error: the node is not a directory.
+const NO_DIRECTORY: u32 = 2;
 
 /// The error: the path does not lead to a symbolic link.
 const NO_LINK: u32 = 5;
@@ -85,6 +91,43 @@ pub(crate) fn stat_at(image: &AnyImage<'_>, node: NodeId) -> RomtoolStat
     shown(image.stat(node))
 }
 
+/// Returns the node of the entry of this name in a directory of an image.
+pub(crate) fn lookup_at(image: &mut AnyImage<'_>, directory: NodeId, name: &[u8]) -> RomtoolNode
+    requires { HasNode (any_view image.old) directory.0 }
+    ensures { (x : Node) → image_node (any_view image.old) directory.0 ≡ Some x
+        → result ≡ entry_reported x name.now }
+{
+    if !is_directory_at(image, directory) {
+        return no_node(NO_DIRECTORY);
+    }
+    match image.lookup(directory, name) {
+        Some(node) => RomtoolNode {
+            error: 0,
+            node: node.0,
+        },
+        None => no_node(NO_ENTRY),
+    }
+}
+
+/// Returns the offset and the length of the text of a link of an image.
+pub(crate) fn readlink_at(image: &AnyImage<'_>, node: NodeId) -> RomtoolPlace
+    requires { HasNode (any_view image.now) node.0 }
+    ensures { (x : Node) → image_node (any_view image.now) node.0 ≡ Some x
+        → IsTextAt x result (is_link x) }
+{
+    if !is_link_at(image, node) {
+        return no_place(NO_LINK);
+    }
+    match image.run(node, 0) {
+        Some(run) => RomtoolPlace {
+            error: 0,
+            at: run.place,
+            len: u64::from(run.len),
+        },
+        None => no_place(NO_LINK),
+    }
+}
+
 /// Returns the offset and the length of the text of the link to which a path leads in an image.
 pub(crate) fn readlink_in(image: &mut AnyImage<'_>, path: &[u8]) -> RomtoolPlace
     requires { IsShallow (any_view image.old).tree }
@@ -93,19 +136,7 @@ pub(crate) fn readlink_in(image: &mut AnyImage<'_>, path: &[u8]) -> RomtoolPlace
         path.now false) result }
 {
     match walk(image, path, false) {
-        Ok(node) => {
-            if !is_link_at(image, node) {
-                return no_place(NO_LINK);
-            }
-            match image.run(node, 0) {
-                Some(run) => RomtoolPlace {
-                    error: 0,
-                    at: run.place,
-                    len: u64::from(run.len),
-                },
-                None => no_place(NO_LINK),
-            }
-        }
+        Ok(node) => readlink_at(image, node),
         Err(error) => no_place(error.number()),
     }
 }

@@ -1,4 +1,4 @@
-//! Fourteen calls for C, as a static library: the check, paths and open files, over structs of
+//! Seventeen calls for C, as a static library: the check, paths and open files, over structs of
 //! numbers that C holds. `include/romtool.h` declares the calls.
 //!
 //! Proved for each call, and for every tree that the bytes hold: it answers as pathname resolution

@@ -1,22 +1,25 @@
 //! The calls of C on an image.
-ghost use Rattle.std.specs.Prelude.{◌≡◌, ◌≢◌, ◌⊎◌, ◌-◌, false, true, IsSome, IfSome};
-ghost use Rattle.rom_tree.specs.Tree.{Node, node_at};
+ghost use Rattle.std.specs.Prelude.{◌≡◌, ◌≢◌, ◌⊎◌, ◌↔◌, ◌-◌, false, true, IsSome, IfSome};
+ghost use Rattle.std.specs.Bool.{IsTrue};
+ghost use Rattle.rom_tree.specs.Tree.{Node, node_at, is_link};
 ghost use Rattle.rom_tree.specs.Image.{stat_of};
 ghost use Rattle.path_walk.specs.Resolution.{resolution, tree_namespace};
 ghost use Rattle.path_walk.specs.Compared.{names_compared};
 ghost use Rattle.rom_faults.specs.declared.error.CheckError.TheVariants.{Fault, OutOfMemory};
 ghost use Rattle.image_check.specs.Checked.{HasTree, IsLeastFaultUnder};
 ghost use Rattle.rom_c.specs.Held.{usual, IsFormat, IsReported};
-ghost use Rattle.rom_c.specs.Reported.{IsText, led_reported, within_reported, shown_reported};
-ghost use Rattle.rom_c.specs.Reported.{stat_reported};
+ghost use Rattle.rom_c.specs.Reported.{IsText, IsTextAt, entry_reported, led_reported};
+ghost use Rattle.rom_c.specs.Reported.{within_reported, shown_reported, stat_reported};
 ghost use Rattle.rom_c.specs.Reported.{no_node as no_node_reported, no_stat as no_stat_reported};
 ghost use Rattle.rom_c.specs.Reported.{no_place as no_place_reported};
 
 use crate::answers::{CLOSED, RomtoolNode, RomtoolPlace, RomtoolStat, no_node, no_place, no_stat};
-use crate::calls::{lookup_in, lookup_within_in, readlink_in, stat_at, stat_in};
+use crate::calls::{
+    lookup_at, lookup_in, lookup_within_in, readlink_at, readlink_in, stat_at, stat_in,
+};
 use crate::image::{OPEN, RomtoolImage, check_into, image_of};
 use image_check::laws::one_tree;
-use rom_tree::NodeId;
+use rom_tree::{NodeId, TreeImage};
 use std::alloc::Global;
 
 /// Checks an image, and stores the struct that C passes to each call on it.
@@ -141,4 +144,60 @@ pub extern "C" fn romtool_readlink(image: &RomtoolImage<'_>, path: &[u8]) -> Rom
         return no_place(CLOSED);
     }
     readlink_in(&mut image_of(image), path)
+}
+
+/// Returns whether a number is that of a node. If no image is open, none is. The time grows with
+/// the number of references, and no memory is taken.
+#[unsafe(no_mangle)]
+pub extern "C" fn romtool_is_node(image: &RomtoolImage<'_>, node: u32) -> bool
+    ensures closed { image.now.status ≢ 1 → result ≡ false }
+    ensures node { image.now.status ≡ 1 → (t : Node) → HasTree image.now.bytes.now usual t
+        → IsTrue result ↔ IsSome (node_at t node) }
+{
+    one_tree();
+    if image.status != OPEN {
+        return false;
+    }
+    image_of(image).is_node(NodeId(node))
+}
+
+/// Returns the node of the entry with exactly this name in the directory with this number, which a
+/// call on the same image returned. No entry is named `.` or `..`, and no link is followed. The
+/// errors are 13 if no image is open, 2 if the node is not a directory, and 1 if it has no such
+/// entry.
+#[unsafe(no_mangle)]
+pub extern "C" fn romtool_lookup_at(
+    image: &RomtoolImage<'_>,
+    directory: u32,
+    name: &[u8],
+) -> RomtoolNode
+    requires { image.now.status ≡ 1 → (t : Node) → HasTree image.now.bytes.now usual t
+        → IsSome (node_at t directory) }
+    ensures closed { image.now.status ≢ 1 → result ≡ no_node_reported 13 }
+    ensures entry { image.now.status ≡ 1 → (t : Node) → HasTree image.now.bytes.now usual t
+        → IfSome (node_at t directory) (λ x. result ≡ entry_reported x name.now) }
+{
+    one_tree();
+    if image.status != OPEN {
+        return no_node(CLOSED);
+    }
+    lookup_at(&mut image_of(image), NodeId(directory), name)
+}
+
+/// Returns the offset and the length of the text of the symbolic link with this number, which a
+/// call on the same image returned; its bytes follow one another in the image. There is no
+/// look-up. The errors are 13 if no image is open, and 5 if the node is not a link.
+#[unsafe(no_mangle)]
+pub extern "C" fn romtool_readlink_node(image: &RomtoolImage<'_>, node: u32) -> RomtoolPlace
+    requires { image.now.status ≡ 1 → (t : Node) → HasTree image.now.bytes.now usual t
+        → IsSome (node_at t node) }
+    ensures closed { image.now.status ≢ 1 → result ≡ no_place_reported 13 }
+    ensures text { image.now.status ≡ 1 → (t : Node) → HasTree image.now.bytes.now usual t
+        → IfSome (node_at t node) (λ x. IsTextAt x result (is_link x)) }
+{
+    one_tree();
+    if image.status != OPEN {
+        return no_place(CLOSED);
+    }
+    readlink_at(&image_of(image), NodeId(node))
 }
