@@ -3,35 +3,29 @@
 
     flash.py [--binary PATH] [--timeout SECONDS]
 
-The kernel is Debian's. Its cramfs.ko, which Debian leaves out, is built from Debian's source with CONFIG_CRAMFS_MTD, and the
-flash is a physmap device (tests/flash). A root is packed twice: with ALIGN 4096 for its programs, and with ALIGN 4. Static
+The kernel is Debian's (kernel.py). Its cramfs.ko, which Debian leaves out, is built from Debian's source with CONFIG_CRAMFS_MTD,
+and the flash is a physmap device (tests/flash). A root is packed twice: with ALIGN 4096 for its programs, and with ALIGN 4. Static
 programs in three layouts, a dynamic one, busybox and bash are started from each image. For each program and library that a
 process maps, the number of its pages in flash is the IN-PLACE of its `xip` line, or 0 if it has a `not` line. Each file that
-Linux reads is compared with its source, except those that `romtool linux` reports. If the emulator, the kernel, its headers or
-its source are missing, all is skipped. The last line is `N passed, M failed`, with `, K skipped`.
+Linux reads is compared with its source, except those that `romtool linux` reports. If a package is missing, all is skipped. The
+last line is `N passed, M failed`, with `, K skipped`.
 """
 
-import glob
 import hashlib
 import os
 import re
 import shutil
-import subprocess
 import sys
-import tempfile
 
-from files import bytes_in, put
-from harness import HERE, Counts, missing, parser, program_of
+from files import bytes_in, put, text_of
+from harness import HERE
+from kernel import console, done, main, make_start
 from romtool import escaped, raw, run
 
 SOURCES = os.path.join(HERE, "flash")
 # where the flash begins, and the partitions with the alignments of their programs; each has 64 MiB
 FLASH, PARTS, PART_SIZE = 0x10000000, {"aligned": 4096, "unaligned": 4}, 0x4000000
-MODULES = ("mtd", "chips/chipreg", "chips/map_rom", "maps/map_funcs", "maps/physmap")
-MAKEFILE = """obj-m := cramfs.o physdev.o
-cramfs-objs := inode.o uncompress.o
-ccflags-y := -DCONFIG_CRAMFS_BLOCKDEV=1 -DCONFIG_CRAMFS_MTD=1
-"""
+MODULES = ("mtd", "chipreg", "map_rom", "map_funcs", "physmap", "cramfs", "physdev")
 WAITING = "#include <unistd.h>\nint main(void) { return (int)sleep(60); }\n"
 # static programs by the linker's options
 STATIC = {
@@ -40,44 +34,6 @@ STATIC = {
     "large": ["-static", "-Wl,-z,max-page-size=65536"],
 }
 PROGRAMS = [*(f"/bin/{name}" for name in STATIC), "/bin/dynamic", "/bin/busybox sleep 60", "/bin/bash /etc/loop"]
-
-
-def kernel():
-    """Returns the version of the newest kernel that has an image and headers, or nothing."""
-    found = [os.path.basename(it)[len("vmlinuz-") :] for it in glob.glob("/boot/vmlinuz-*")]
-    return max((it for it in found if os.path.isdir(f"/lib/modules/{it}/build")), default="")
-
-
-def lacking():
-    """Returns what is not installed, or nothing."""
-    if tool := missing("qemu-system-x86_64", "cc", "make", "cpio", "ldd", "bash"):
-        return tool
-    if not kernel():
-        return "a kernel with its headers (linux-image-amd64, linux-headers-amd64)"
-    if not glob.glob("/usr/src/linux-source-*.tar.xz"):
-        return "the source of the kernel (linux-source)"
-    busybox = shutil.which("busybox")
-    return "" if busybox and b"/ld-linux" not in bytes_in(busybox)[:4096] else "a static busybox"
-
-
-def done(words, **more):
-    """Runs a command, and returns what it printed. If it fails, the test ends with that."""
-    ran = subprocess.run(words, stdin=subprocess.DEVNULL, stdout=subprocess.PIPE, stderr=subprocess.STDOUT, **more)
-    if ran.returncode:
-        raise RuntimeError(f"{words[0]}: {ran.stdout.decode(errors='replace')[-2000:]}")
-    return ran.stdout
-
-
-def make_modules(top):
-    """Builds the modules of cramfs and of the flash, and copies those of Debian that they need, into a directory."""
-    source = sorted(glob.glob("/usr/src/linux-source-*.tar.xz"))[-1]
-    done(["tar", "-xf", source, "-C", top, "--strip-components=3", "--wildcards", "*/fs/cramfs/*"])
-    shutil.copy(f"{SOURCES}/physdev.c", top)
-    put(f"{top}/Makefile", MAKEFILE.encode())
-    modules = f"/lib/modules/{kernel()}"
-    done(["make", "-C", f"{modules}/build", f"M={top}", "modules"])
-    for name in MODULES:
-        shutil.copy(f"{modules}/kernel/drivers/mtd/{name}.ko", top)
 
 
 def libraries(program):
@@ -117,39 +73,16 @@ def make_images(binary, top, counts):
     return True
 
 
-def make_start(top):
-    """Makes the archive that the kernel starts from: the modules, busybox, `flashpages` and its `init`."""
-    os.makedirs(f"{top}/start/bin")
-    os.makedirs(f"{top}/start/modules")
-    for name in ("dev", "proc", "mnt"):
-        os.mkdir(f"{top}/start/{name}")
-    os.mkdir(f"{top}/modules")
-    make_modules(f"{top}/modules")
-    for path in glob.glob(f"{top}/modules/*.ko"):
-        shutil.copy(path, f"{top}/start/modules")
-    shutil.copy(shutil.which("busybox"), f"{top}/start/bin/busybox")
-    shutil.copy(f"{SOURCES}/init", f"{top}/start/init")
-    os.chmod(f"{top}/start/init", 0o755)
+def add_programs(top):
+    """Adds what the `init` reads to the directory that the kernel starts from: the programs, and `flashpages`."""
     done(["cc", "-O2", "-static", "-o", f"{top}/start/bin/flashpages", f"{SOURCES}/flashpages.c"])
     put(f"{top}/start/programs", "".join(f"{it}\n" for it in PROGRAMS).encode())
-    names = "".join(
-        f"{os.path.relpath(os.path.join(at, it), f'{top}/start')}\n" for at, dirs, files in os.walk(f"{top}/start") for it in dirs + files
-    )
-    made = subprocess.run(
-        ["cpio", "--quiet", "-o", "-H", "newc"], input=names.encode(), stdout=subprocess.PIPE, cwd=f"{top}/start", check=True
-    )
-    put(f"{top}/start.cpio", made.stdout)
 
 
-def console(top, seconds):
-    """Returns the lines that the kernel's console shows."""
-    words = ["qemu-system-x86_64", "-accel", "tcg", "-cpu", "qemu64", "-m", "768M", "-nographic", "-no-reboot"]
-    words += ["-kernel", f"/boot/vmlinuz-{kernel()}", "-initrd", f"{top}/start.cpio", "-append"]
-    words += [f"console=ttyS0 nokaslr memmap=128M$0x{FLASH:x} tsc=unstable loglevel=3 mitigations=off no_timer_check"]
-    for number, name in enumerate(PARTS):
-        words += ["-device", f"loader,file={top}/{name},addr=0x{FLASH + number * PART_SIZE:x},force-raw=on"]
-    ran = subprocess.run(words, stdin=subprocess.DEVNULL, stdout=subprocess.PIPE, stderr=subprocess.STDOUT, timeout=seconds)
-    return ran.stdout.decode(errors="replace").replace("\r", "").split("\n")
+def devices(top):
+    """Returns the options by which the emulator has the images in its memory."""
+    places = [(name, FLASH + number * PART_SIZE) for number, name in enumerate(PARTS)]
+    return [it for name, place in places for it in ("-device", f"loader,file={top}/{name},addr=0x{place:x},force-raw=on")]
 
 
 def in_place(binary, top, name):
@@ -203,29 +136,14 @@ def tries(binary, top, counts, seconds):
     make_root(f"{top}/root")
     if not make_images(binary, top, counts):
         return
-    make_start(top)
-    lines = console(top, seconds)
-    if not counts.equal("Linux runs to its end", "the end" in lines, True, "\n".join(lines[-40:])):
-        return
-    compare_pages(binary, top, lines, counts)
-    compare_files(binary, top, lines, counts)
-
-
-def main():
-    reader = parser("Start Linux with images in flash, and compare what it executes in place.")
-    reader.add_argument("--timeout", type=int, default=900, help="how many seconds the emulator may run")
-    arguments, counts = reader.parse_args(), Counts()
-    binary = program_of(arguments)
-    if lacks := lacking():
-        counts.skips(f"there is no {lacks}")
-        return counts.close()
-    with tempfile.TemporaryDirectory(prefix="romtool-") as top:
-        try:
-            tries(binary, top, counts, arguments.timeout)
-        except (subprocess.TimeoutExpired, RuntimeError) as error:
-            counts.fails("Linux in the emulator", str(error).splitlines()[-40:])
-    return counts.close()
+    make_start(top, text_of(f"{SOURCES}/init"), MODULES, [f"{SOURCES}/physdev.c"])
+    add_programs(top)
+    lines = console(top, seconds, counts, f"memmap=128M$0x{FLASH:x}", devices(top))
+    if lines:
+        compare_pages(binary, top, lines, counts)
+        compare_files(binary, top, lines, counts)
 
 
 if __name__ == "__main__":
-    sys.exit(main())
+    about = "Start Linux with images in flash, and compare what it executes in place."
+    sys.exit(main(about, tries, seconds=900, tools={"ldd": "libc-bin", "bash": "bash"}))

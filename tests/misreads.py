@@ -3,23 +3,24 @@
 
     misreads.py [--binary PATH] [--timeout SECONDS]
 
-Debian's user-mode Linux mounts these images, lists their names, looks each of them up, and reads files, links, modes, owners and
-the numbers of devices:
+Debian's kernel starts in an emulator (kernel.py), mounts these images from a loop device, lists their names, looks each of them
+up, and reads files, links, modes, owners and the numbers of devices:
     romfs, cramfs   built of manifests: names of some lengths; files of some sizes, and files that share a table
     of143, of144    built: volume names of 143 and 144 bytes
     nodes           laid out here, one of each format: devices, links, names, and hard links to records with long names
 In each image, exactly those names that Linux shows otherwise than they were laid out have a line of `romtool linux`, with
-the number of that difference. If something is missing on a machine, all is skipped, as in linux.py. The last line is
-`N passed, M failed`, with `, K skipped`.
+the number of that difference. If a package is missing, all is skipped. The last line is `N passed, M failed`, with
+`, K skipped`.
 """
 
 import hashlib
+import os
 import struct
 import sys
 
 import images
 from files import put
-from linux import STARTED, console, main, make_host
+from kernel import console, main, make_start
 from romtool import run
 
 # files of one table: name, mode, user and group
@@ -39,11 +40,7 @@ LONG = (127, 128, 143, 144, 160, 255)
 PADDED = (("p", 1), ("pp", 2), ("pppp", 1), ("ppppp", 3), ("p" * 248, 63), ("p" * 249, 63), ("p" * 252, 63))
 ROOTS = (0o700, 0o751, 0o755, 0o1777)
 CONTENTS = b"0123456789abcdef"
-HOST_INIT = """#!/bin/busybox sh
-b=/bin/busybox
-echo "%(started)s"
-for module in loop romfs cramfs; do $b insmod /$module.ko; done
-with() {
+COMMANDS = """with() {
     $b losetup /dev/loop0 "/$2.image"
     $b mount -t "$1" -o ro /dev/loop0 /mnt && { $3; $b umount /mnt; }
     $b losetup -d /dev/loop0
@@ -74,7 +71,6 @@ with cramfs cramfs files
 for image in %(volumes)s; do with romfs "$image" volume; done
 for form in romfs cramfs; do with "$form" "nodes.$form" nodes; done
 for image in %(roots)s; do with cramfs "$image" root; done
-$b poweroff -f
 """
 
 
@@ -97,7 +93,7 @@ def told_of(binary, image):
 
 def image_path(top, name):
     """Returns where the kernel finds an image."""
-    return "%s/host/%s.image" % (top, name)
+    return "%s/start/%s.image" % (top, name)
 
 
 def built(binary, top, form, lines, name=None):
@@ -184,7 +180,7 @@ class Images:
     def put_names(self):
         """Puts the names that are looked up where the kernel finds them."""
         for name, names in (("names", self.names), *(("%s.names" % it, names) for it, names in self.node_names.items())):
-            put("%s/host/%s" % (self.top, name), "".join(it + "\n" for it in names).encode("ascii"))
+            put("%s/start/%s" % (self.top, name), "".join(it + "\n" for it in names).encode("ascii"))
 
 
 def look_at_names(counts, it, told):
@@ -197,10 +193,11 @@ def look_at_names(counts, it, told):
 
 def look_at_files(counts, it, told):
     """Files of cramfs that have other bytes, or another mode or owner."""
+    texts = {**{"f%d" % size: contents(size) for size in SIZES}, **{row[0]: b"x" for row in SHARED}}
     read = {line.split(" ")[-1]: line.split(" ")[0] for line in told("read")}
-    wrong = {"f%d" % size for size in SIZES if read.get("f%d" % size) != hashlib.md5(contents(size)).hexdigest()}
+    wrong = {name for name, text in texts.items() if read.get(name) != hashlib.md5(text).hexdigest()}
     look(counts, "files that are read with other bytes", wrong, it.cramfs[1])
-    look(counts, "all files are read", set(read), {"f%d" % size for size in SIZES} | {row[0] for row in SHARED})
+    look(counts, "all files are read", set(read), set(texts))
     seen = {line.split("/")[-1]: line.split(" ")[:3] for line in told("stat")}
     wrong = {name for name, mode, user, group in SHARED if seen.get(name) != [mode.lstrip("0"), str(user), str(group)]}
     look(counts, "files that have another mode or owner", wrong, it.cramfs[2])
@@ -237,14 +234,12 @@ def look_at_nodes(counts, it, form, told):
 
 def tries(binary, top, counts, seconds):
     """Makes all images in a directory, has Linux read them, and compares."""
-    make_host(top + "/host")
+    os.mkdir(top + "/start")
     it = Images(binary, top)
     it.put_names()
-    words = {"started": STARTED, "volumes": " ".join(it.volumes), "roots": " ".join(it.roots)}
-    put(top + "/host/init", (HOST_INIT % words).encode("ascii"))
-    lines = console(top + "/host", seconds)
-    if STARTED not in lines:
-        counts.skips("user-mode Linux does not start here: %r" % lines[-3:])
+    make_start(top, COMMANDS % {"volumes": " ".join(it.volumes), "roots": " ".join(it.roots)})
+    lines = console(top, seconds, counts)
+    if not lines:
         return
 
     def told(word):
