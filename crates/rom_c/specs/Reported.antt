@@ -1,6 +1,6 @@
--- The reports to C about a path: `led_reported`, `within_reported`, `shown_reported`, `IsText`; and
--- about a node: `stat_reported`, `entry_reported`, `IsTextAt`. `no_node`, `no_stat`, `no_place`: all
--- except the error is 0. (This project's own.)
+-- The reports to C about a path: `led_reported`, `within_reported`, `shown_reported`, `IsText`;
+-- and about a node: `stat_reported`, `entry_reported`, `IsTextAt`. `no_node`, `no_stat`,
+-- `no_place`: all except the error is 0. (This project's own.)
 use Rattle.std.specs.Prelude.{◌≡◌, ℕ, ◌+◌, ◌<◌, nat_lt, Bool, true, false, length, slice_index}
 use Rattle.std.specs.Prelude.{List, Option, Some, None, Result, Ok, Err, if◌then◌else◌}
 use Rattle.rom_tree.specs.declared.types.Kind.{Kind}
