@@ -581,11 +581,13 @@ fn say_built(reporter: &Reporter<'_>, len: u64) -> Status {
     }
 }
 
-/// Builds the image of a manifest, whose sources are named as it names them.
+/// Builds the image of a manifest, whose sources are named as it names them, and were found in
+/// these directories if they were scanned.
 fn build_plain<'a>(
     reporter: &Reporter<'_>,
     asked: Build<'a>,
     manifest: &'a Manifest,
+    directories: &'a [String],
     file: TextFile,
 ) -> Result<Built, Status>
     requires { asked.sources ≡ None }
@@ -595,7 +597,7 @@ fn build_plain<'a>(
         manifest,
         joined: None,
         no_follow: asked.no_follow,
-        directories: &[],
+        directories,
     };
     let names = names_of(reporter, origin, manifest.sources())?;
     build_from(reporter, asked, origin, &names, file)
@@ -643,7 +645,7 @@ fn build(reporter: &Reporter<'_>, asked: Build<'_>) -> Result<Status, Status> {
     let text = text_of(reporter, asked.manifest)?;
     let manifest = manifest_of(reporter, asked.manifest, &text.bytes)?;
     let built = match asked.sources {
-        None => build_plain(reporter, asked, &manifest, text.file)?,
+        None => build_plain(reporter, asked, &manifest, &[], text.file)?,
         Some(directory) => build_in(reporter, asked, directory, &manifest, text.file)?,
     };
     Ok(built.status)
@@ -662,19 +664,11 @@ pub fn build_scanned(
         ..asked
     };
     let manifest = manifest_of(reporter, asked.manifest, &scanned.text)?;
-    let origin = Origin {
-        name: asked.manifest,
-        manifest: &manifest,
-        joined: None,
-        no_follow: true,
-        directories: &scanned.directories,
-    };
     let text = TextFile {
         identity: file,
         stamp: None,
     };
-    let names = names_of(reporter, origin, origin.manifest.sources())?;
-    let built = build_from(reporter, asked, origin, &names, text)?;
+    let built = build_plain(reporter, asked, &manifest, &scanned.directories, text)?;
     contents::explain(reporter, asked, &manifest, (built.len, &built.sizes));
     Ok(built.status)
 }

@@ -3,6 +3,7 @@
 //! fakeroot and pseudo fake owners, modes and devices for the programs in which the dynamic linker
 //! loads their library. Their variables are also in the environment of a program that is static.
 use crate::reporter::Reporter;
+use memchr::memmem;
 use program_streams::read_until;
 use rom_commands::Status;
 use sentences::reasons::FAKED;
@@ -58,7 +59,7 @@ pub fn check_faked(reporter: &Reporter<'_>, directories: &[&str]) -> Result<(), 
     let Ok(loaded) = loaded(reporter.rt) else {
         return Ok(());
     };
-    if loaded.windows(library.len()).any(|part| part == library) {
+    if memmem::find(&loaded, library).is_some() {
         return Ok(());
     }
     let first = directories.first().copied().unwrap_or("");
