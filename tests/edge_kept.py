@@ -5,14 +5,15 @@
 
 Tested are: the one descriptor of a part, if its closing fails; standard output, if its closing fails, in each
 subcommand; a file system that reports only at the closing what it lost (lossy.c, by FUSE), and a file server that is
-full (sshfs); OUT that is standard output; the group of OUT; sources that are links; and the reason why a source cannot
-be read. A test that needs `strace`, FUSE, `sshfs` or root is skipped if it is missing. The last line is `N passed, M
-failed`, with `, K skipped`.
+full (sshfs); OUT that is standard output; the group of OUT, and OUT of another user; sources that are links; the reason why
+a source cannot be read; and images that are larger than ROMTOOL_MAX_SIZE. A test that needs `strace`, FUSE, `sshfs` or root
+is skipped if it is missing. The last line is `N passed, M failed`, with `, K skipped`.
 """
 
 import contextlib
 import os
 import re
+import resource
 import shutil
 import stat
 import subprocess
@@ -402,11 +403,49 @@ def reason_of_a_source(binary):
             yield "%s: %r" % (fault, answer(done))
 
 
+@needs_root
+def out_of_another_user(binary):
+    """An OUT that another user made in a directory for all users is refused, and stays; not one of the user or of the directory's owner."""
+    hello()
+    image = wanted(binary)
+    os.mkdir("shared")
+    os.chmod("shared", 0o1777)
+    for owner, of_directory, status in ((NOBODY, 0, 3), (NOBODY, NOBODY, 0), (0, NOBODY, 0), (0, 0, 0)):
+        put("shared/out", b"old", 0o644)
+        os.chown("shared/out", owner, owner)
+        os.chown("shared", of_directory, of_directory)
+        done = run(binary, "build", "romfs", "m", "shared/out")
+        said, now = (b"file shared/out\n", b"old") if status else (b"", image)
+        if (done.returncode, done.stderr, bytes_in("shared/out")) != (status, said, now):
+            yield "owner %d, directory of %d: %r" % (owner, of_directory, answer(done))
+        os.remove("shared/out")
+
+
+def images_that_are_too_large(binary):
+    """With ROMTOOL_MAX_SIZE, an image of which more bytes would be read is refused by each subcommand, and takes no memory."""
+    hello()
+    run(binary, "build", "romfs", "m", "image")
+    length = int.from_bytes(bytes_in("image")[8:12], "big")
+    with open("sparse", "wb") as it:
+        it.write(b"-rom1fs-\xff\xff\xff\xf0")
+        it.truncate(1 << 32)
+
+    def limited():
+        resource.setrlimit(resource.RLIMIT_AS, (1 << 28, 1 << 28))
+
+    for name, most, status in (("image", str(length), 0), ("image", str(length - 1), 3), ("sparse", "1G", 3), ("image", "x", 3)):
+        for words in (["check"], ["list"], ["info"], ["map"], ["digest"], ["linux"], ["xip"], ["serve"], ["space"]):
+            how = {"env": {**os.environ, "ROMTOOL_MAX_SIZE": most}, "input": b"", "preexec_fn": limited, "timeout": SECONDS}
+            done = subprocess.run([binary, *words, name], capture_output=True, **how)
+            if done.returncode != status or status and (done.stdout, done.stderr) != (b"", b"file %s\n" % name.encode()):
+                yield "%s of %s, %s: %r" % (words, name, most, answer(done))
+
+
 TESTS = [
     one_descriptor, part_whose_closing_fails, device_whose_closing_fails, output_whose_closing_fails,
     image_stays_where_its_line_is_lost, file_system_that_loses, file_system_that_loses_when_synced,
     file_server_that_is_full, out_is_standard_output, device_that_keeps_nothing, group_of_out,
-    source_that_is_a_link, source_that_becomes_a_link, reason_of_a_source,
+    source_that_is_a_link, source_that_becomes_a_link, reason_of_a_source, out_of_another_user, images_that_are_too_large,
 ]  # fmt: skip
 
 

@@ -282,6 +282,10 @@ def devices(tester):
     with open(f"{tester.room}/bad", "w", encoding="ascii") as file:
         file.write("pipe /x 0600 0 0\n\npipe /x 0600 0 0\n")
     tester.is_same("devices: twice", tester.run(["scan", "--all", "--devices", "bad", "table"]), ("", "manifest 3 5 Exists\n", 1))
+    if IS_ROOT:
+        os.mkdir(f"{tester.room}/layer")
+        os.mknod(f"{tester.room}/layer/removed", stat.S_IFCHR, 0)
+        tester.is_same("a whiteout", tester.run(["scan", "--all", "table", "layer"]), ("", "file layer/removed\n", 3))
     tester.is_same("devices: none", tester.run(["scan", "--all", "--devices", "no", "table"]), ("", "file no\n", 3))
     ran = tester.run(["scan", "--all", "--devices", "devices", "-o", "devices", "table"])
     tester.is_same("devices: FILE", ran, ("", "file devices\n", 3))
