@@ -152,14 +152,14 @@ def contents(mounter, image, entries):
     held, mapped = bytes_in(image), {}
     for piece in pieces_of(run(mounter.binary, "map", image).stdout):
         if piece.length:
-            start = int(piece.address, 16)
-            mapped[piece.path] = mapped.get(piece.path, b"") + held[start : start + piece.length]
+            mapped.setdefault(piece.path, []).append((int(piece.address, 16), piece.length))
     for it in [one for one in entries if one.kind == "f" and len(one.path) < 4000]:
-        found, wanted = bytes_in(mounter.path(it.path)), mapped.get(it.path, b"")
         if raw(it.path).isascii():
             done = run(mounter.binary, "cat", image, raw(it.path))
             wanted = None if done.returncode else done.stdout
-        if found != wanted:
+        else:
+            wanted = b"".join(held[start : start + length] for start, length in mapped.get(it.path, ()))
+        if bytes_in(mounter.path(it.path)) != wanted:
             yield it.path
 
 
