@@ -62,8 +62,9 @@ static struct inode *inodes;
 static uint32_t names_count, inodes_count;
 static unsigned int max_read; /* the number of the option, which libfuse wants to be told twice; or 0 */
 
-/* Truncation. If bytes of the image are gone, the system sends SIGBUS to who reads them. A request that does so fails
- * with EIO; before anything is mounted, the program ends with a message. */
+/* Truncation. If bytes of the image are gone, the system sends SIGBUS to the thread that reads them. The request that it
+ * serves then fails with EIO; before anything is mounted, the program ends with a message. Bytes that are sent without a
+ * copy are read by the system itself, which fails the request in the same way. */
 static _Thread_local sigjmp_buf failed;
 static _Thread_local volatile sig_atomic_t serving;
 static _Thread_local void *reply; /* the buffer of a request, or NULL */
@@ -75,13 +76,12 @@ static void bytes_are_gone(int number) {
         serving = 0;
         siglongjmp(failed, 1);
     }
-    if (write(STDERR_FILENO, text, sizeof text - 1) < 0) {
-        _exit(SYSTEM);
-    }
+    const ssize_t written = write(STDERR_FILENO, text, sizeof text - 1);
+    (void)written;
     _exit(SYSTEM);
 }
 
-/* Replies an error, and frees the buffer. */
+/* Replies with an error, and frees the buffer. */
 static void refuse(fuse_req_t req, int error) {
     serving = 0;
     free(reply);
@@ -564,7 +564,7 @@ static int system_error(const char *path) {
 static int add_options(struct fuse_args *args, const char *path) {
     char *options = NULL, *name = NULL, *whole = realpath(path, NULL);
     const int wrong = asprintf(&name, "fsname=%s", whole ? whole : path) < 0
-        || fuse_opt_add_opt(&options, "ro,default_permissions,subtype=romtool") || fuse_opt_add_opt_escaped(&options, name)
+        || fuse_opt_add_opt(&options, "ro,default_permissions") || fuse_opt_add_opt_escaped(&options, name)
         || fuse_opt_insert_arg(args, 1, "-o") || fuse_opt_insert_arg(args, 2, options);
     free(options);
     free(name);
@@ -585,6 +585,10 @@ static int open_image(const char *path) {
     }
     const off_t size = lseek(file, 0, SEEK_END); /* also of a block device */
     if (size < 0) {
+        return system_error(path);
+    }
+    if ((off_t)(size_t)size != size) {
+        errno = EFBIG;
         return system_error(path);
     }
     void *bytes = size ? mmap(NULL, (size_t)size, PROT_READ, MAP_PRIVATE, file, 0) : NULL;

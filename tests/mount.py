@@ -501,6 +501,22 @@ def truncated(mounter):
             mounter.counts.equal("%s: what is known after a truncation" % form, os.lstat(folder + "/size4097").st_size, 4097)
             fuse.unmount(folder)
             mounter.counts.equal("%s: the end after a truncation" % form, server.wait(SECONDS), 0)
+        truncated_file(mounter, form, held)
+
+
+def truncated_file(mounter, form, held):
+    """Only contents are gone, which the kernel reads: their beginning is still read, and the rest is an error."""
+    image, name = mounter.top + "/shorter", "/size3145733"
+    put(image, held)
+    piece = next(it for it in pieces_of(run(mounter.binary, "map", image).stdout) if it.path == name)
+    with mounter.mounted(image) as server:
+        size = os.lstat(mounter.folder + name).st_size
+        os.truncate(image, (int(piece.address, 16) + 2**20) // 4096 * 4096)
+        file = os.open(mounter.folder + name, os.O_RDONLY | os.O_DIRECT)
+        told = (size, os.pread(file, 9999, 0) == held[int(piece.address, 16) :][:9999], error_of(os.pread, file, 9999, 2**21))
+        os.close(file)
+        mounter.counts.equal("%s: a file after a truncation" % form, told, (3145733, True, errno.EIO))
+        mounter.counts.equal("%s: it is served after a truncation" % form, server.poll(), None)
 
 
 # the command line
