@@ -373,6 +373,9 @@ def continued(mounter, image):
             found.append((at, entry.contents.name, entry.contents.number))
             at = library.telldir(listed)
         library.closedir(listed)
+        dots = {name: number for _, name, number in found if name in (b".", b"..")}
+        wanted = {b".": os.lstat(folder).st_ino, b"..": os.lstat(mounter.folder).st_ino}
+        mounter.counts.equal("%s: numbers of dots" % image, dots, wanted)
     names = sorted(it[1] for it in found)
     mounter.counts.equal("%s: names" % image, (len(names), len(set(names)), names[:2]), (5002, 5002, [b".", b".."]))
     wrong = []
