@@ -278,33 +278,6 @@ static int param_of(const struct inode *inode, struct fuse_entry_param *out) {
     return stat_of(inode, &out->attr);
 }
 
-static uint32_t word_at(uint64_t at) {
-    const uint8_t *byte = image.data + at;
-    if (image.format == ROMTOOL_CRAMFS) {
-        return byte[0] | (uint32_t)byte[1] << 8 | (uint32_t)byte[2] << 16 | (uint32_t)byte[3] << 24;
-    }
-    return byte[3] | (uint32_t)byte[2] << 8 | (uint32_t)byte[1] << 16 | (uint32_t)byte[0] << 24;
-}
-
-/* Returns where the text of a symbolic link is, or NULL if it were outside the image, which no image is that passed the
- * check. The library finds a text only by a path, in time linear in the names before the link. So its record is read
- * here, as docs/internals/FORMATS.md describes it. */
-static const uint8_t *text_of(uint32_t node, uint32_t size) {
-    const uint64_t end = image.accessible;
-    uint64_t at;
-    if (image.format == ROMTOOL_ROMFS) {
-        at = (uint64_t)node + 16;
-        if (at < end) {
-            at += (strnlen((const char *)image.data + at, (size_t)(end - at)) / 16 + 1) * 16;
-        }
-    } else {
-        const uint32_t word = word_at((uint64_t)node + 8);
-        const uint64_t table = 4 * (uint64_t)(image.format == ROMTOOL_CRAMFS ? word >> 6 : word & 0x3ffffff);
-        at = table + 4 <= end ? 4 * (uint64_t)(word_at(table) & 0x3fffffff) : end;
-    }
-    return at + size <= end ? image.data + at : NULL;
-}
-
 /* Requests. */
 
 static void op_init(void *data, struct fuse_conn_info *connection) {
@@ -351,14 +324,14 @@ NOT_INLINE static void serve_readlink(fuse_req_t req, fuse_ino_t number) {
         refuse(req, EINVAL);
         return;
     }
-    const struct romtool_stat stat = romtool_stat_node(&image, inode->node);
-    const uint8_t *text = stat.size < sizeof link ? text_of(inode->node, stat.size) : NULL;
-    if (text) {
-        memcpy(link, text, stat.size);
-        link[stat.size] = 0;
+    const struct romtool_place text = romtool_readlink_node(&image, inode->node);
+    const int fits = text.error == 0 && text.len < sizeof link;
+    if (fits) {
+        memcpy(link, image.data + text.at, (size_t)text.len);
+        link[text.len] = 0;
     }
     serving = 0;
-    if (text && strlen(link) == stat.size) { /* a text with a zero byte cannot be passed on */
+    if (fits && strlen(link) == text.len) { /* a text with a zero byte cannot be passed on */
         fuse_reply_readlink(req, link);
     } else {
         refuse(req, EIO);

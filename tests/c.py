@@ -401,7 +401,7 @@ def on_aarch64(binary, top, numbers, counts):
         cases(binary, answers, counts)
         each_format(binary, top, answers, counts)
     if closed:
-        counts.equal("closed handles on aarch64", said([closed, top + "/tree"]).stdout, b"closed 117\n")
+        counts.equal("closed handles on aarch64", said([closed, top + "/tree"]).stdout, b"closed 132\n")
     if numbers:
         reader(top, archive, numbers, counts, "aarch64-linux-gnu-gcc", ["qemu-aarch64"])
 
@@ -504,7 +504,7 @@ def main():
             with open(top + "/tree", "wb") as file:
                 file.write(run.file_of("romfs/tree/image"))
             done = said([closed, top + "/tree"])
-            counts.equal("closed handles", (done.returncode, done.stdout), (0, b"closed 117\n"))
+            counts.equal("closed handles", (done.returncode, done.stdout), (0, b"closed 132\n"))
         if numbers and os.uname().machine == "x86_64":
             reader(top, archive, numbers, counts)
         elif numbers:
