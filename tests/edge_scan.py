@@ -75,7 +75,7 @@ def make_kinds():
         it.bind("in/socket")
     if IS_ROOT:
         os.mknod("in/disk", 0o600 | stat.S_IFBLK, os.makedev(4095, 1048575))
-        os.mknod("in/tty", 0o600 | stat.S_IFCHR, os.makedev(0, 0))
+        os.mknod("in/tty", 0o600 | stat.S_IFCHR, os.makedev(0, 1))
     for name in sorted(os.listdir("in")):
         if not os.path.isdir("in/" + name) or os.path.islink("in/" + name):
             os.link("in/" + name, "in/none/" + name, follow_symlinks=False)
@@ -558,7 +558,8 @@ def greatest_numbers(binary):
     os.lchown("in/link", 2**32 - 2, 2**32 - 2)
     for kind in (stat.S_IFBLK, stat.S_IFCHR):
         for major, minor in ((0, 0), (4095, 1048575), (4095, 0), (0, 1048575), (255, 256), (256, 255)):
-            os.mknod("in/%d %d %d" % (kind, major, minor), 0o7777 | kind, os.makedev(major, minor))
+            if (kind, major, minor) != (stat.S_IFCHR, 0, 0):  # which overlayfs has for a name that was removed
+                os.mknod("in/%d %d %d" % (kind, major, minor), 0o7777 | kind, os.makedev(major, minor))
     put("in/sparse", b"")
     os.truncate("in/sparse", 2**32 + 1)
     put("in/more sparse", b"end")

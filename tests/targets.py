@@ -150,7 +150,7 @@ def closed_and_areas(closed, areas, top, name, counts):
     """What closed.c and areas.c say; the areas of a machine of 32 bits have their own sizes."""
     if closed:
         done = c.said([closed, "tree"], cwd=top)
-        counts.equal("closed handles on " + name, (done.returncode, done.stdout), (0, b"closed 117\n"))
+        counts.equal("closed handles on " + name, (done.returncode, done.stdout), (0, b"closed 132\n"))
     if areas:
         done = c.said([areas, "tree", "cramfs"], cwd=top)
         lines = done.stdout.splitlines()
