@@ -492,6 +492,20 @@ def calls_in_order(binary):
         yield "%r" % made
 
 
+@needs_strace
+def without_syncs(binary):
+    """With --no-sync the same calls are made, except those that wait for the disk, and the same files and manifest."""
+    small(binary)
+    kept = []
+    for words in ([], ["--no-sync"]):
+        remove("out")
+        made, done = traced.calls(binary, "extract", *words, "image", "out")
+        kept.append(([call.name for call in made if call.name in FAILED], done.stdout, done.stderr, done.returncode))
+    synced, *told = kept[0]
+    if "fsync" not in synced or kept[1] != ([name for name in synced if name != "fsync"], *told) or told[-1]:
+        yield "%r, and without: %r" % (kept[0], kept[1])
+
+
 def lay(there):
     """Makes the directory, or not."""
     if there:
@@ -682,7 +696,7 @@ def deep_files(depth, length, count):
 
 TESTS = [
     folders_that_are_there, links_that_lead_elsewhere, images_that_are_refused, names_that_no_file_has,
-    images_that_no_manifest_tells, without_rights, owners, output_that_is_not_taken, calls_in_order, each_call_failed,
+    images_that_no_manifest_tells, without_rights, owners, output_that_is_not_taken, calls_in_order, without_syncs, each_call_failed,
     memory_refused, many_files, of_cases, links_refused, further_names_are_told, modes_under_a_mask, interrupted,
     failure_is_told, disks_that_fail_at_close, memory_of_names, many_times_the_image,
 ]  # fmt: skip
