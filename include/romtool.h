@@ -43,7 +43,7 @@
 #define ROMTOOL_VERSION 20000 /* 10000 * major + 100 * minor + patch */
 #define ROMTOOL_VERSION_TEXT "2.0.0"
 
-/* Whether pointers have 32 bits. Nine functions then return their results through a pointer, behind wrappers. */
+/* Whether pointers have 32 bits. Ten functions then return their results through a pointer, behind wrappers. */
 #if UINTPTR_MAX <= 0xffffffffu
 #define ROMTOOL_32 1
 #else
