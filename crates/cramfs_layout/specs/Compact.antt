@@ -1,24 +1,7 @@
--- `AreCompact`: sections with no room between them except what alignment needs. `HaveAlignments`:
--- the alignments for which files ask. (This project's own.)
-use Rattle.std.specs.Prelude.{◌≡◌, ℕ, ◌+◌, ◌<◌, List, [], ◌∷◌}
-use Rattle.manifest_tree.specs.Names.{Fill, no_bytes, text, source, Names, nothing, leaf, link}
-use Rattle.manifest_tree.specs.Names.{subdirectory}
+-- `AreCompact`: sections with no room between them except what alignment needs. (This project's
+-- own.)
+use Rattle.std.specs.Prelude.{ℕ, ◌+◌, ◌<◌, List, [], ◌∷◌}
 use Rattle.layout_terms.specs.Items.{Body, contents_of, Section}
-
--- the alignment of these bytes: `align` of a source, and 4 if they are of none
-abbrev pub align_by : (ℕ → ℕ) → Fill → ℕ
-align_by align no_bytes = 4
-align_by align (text t) = 4
-align_by align (source k) = align k
-
--- each file asks for the alignment of its bytes
-abbrev pub HaveAlignments : (ℕ → ℕ) → Names → Type 0
-HaveAlignments align nothing = Unit {0}
-HaveAlignments align (leaf name i after) =
-    (i.align ≡ align_by align i.fill) × HaveAlignments align after
-HaveAlignments align (link name i after) = HaveAlignments align after
-HaveAlignments align (subdirectory name i own after) =
-    HaveAlignments align own × HaveAlignments align after
 
 -- the alignment of a section: that of its source for contents, and 4 for all else
 abbrev pub section_align : (ℕ → ℕ) → Body → ℕ

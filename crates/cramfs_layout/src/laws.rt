@@ -3,13 +3,14 @@ ghost use Rattle.std.specs.Prelude.{◌≡◌, ◌++◌, ◌-◌, List, ℕ, ◌
 ghost use Rattle.std.specs.List.{AllByRecursion as Every};
 ghost use Rattle.cramfs_format.specs.declared.order.Order.{Order};
 ghost use Rattle.cramfs_format.specs.Tree.{CramfsTree};
-ghost use Rattle.cramfs_layout.specs.Compact.{AreCompact, HaveAlignments};
+ghost use Rattle.cramfs_layout.specs.Compact.{AreCompact};
 ghost use Rattle.cramfs_layout.specs.Composed.{cramfs_part, composed};
 ghost use Rattle.cramfs_layout.specs.Items.{AreAlignedBy, items_of, sections_of};
 ghost use Rattle.cramfs_layout.specs.Layout.{layout, size_of, superblock};
 ghost use Rattle.cramfs_layout.specs.Planned.{IsPlanned};
 ghost use Rattle.cramfs_layout.specs.Sealed.{IsSealed};
 ghost use Rattle.cramfs_layout.specs.Sharing.{SourcesAreShared};
+ghost use Rattle.layout_terms.specs.Alignments.{HaveAlignments};
 ghost use Rattle.layout_terms.specs.Items.{SectionsRise};
 ghost use Rattle.layout_terms.specs.Placement.{AreInRuns};
 ghost use Rattle.manifest_tree.specs.Names.{Inode, Names};

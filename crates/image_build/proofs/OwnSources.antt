@@ -1,7 +1,6 @@
 -- Files of a manifest have sources of their own if no line names the contents of another.
-use Rattle.std.proofs.Common.{◌≡◌, ◌≢◌, ℕ, ◌+◌, ◌<◌, ◌≤◌, ◌&&◌, ◌||◌, nat_lt, Bool, true, false, cond, if◌then◌else◌}
-use Rattle.std.proofs.Common.{inl, inr, List, [], ◌∷◌, reverse, Option, Some, None, refl, sym, ap, subst, ◌∙◌, arith}
-use Rattle.std.proofs.lemmas.Bool.{ltb-true, lt-ltb, le-ltb, cases_lt}
+use Rattle.std.proofs.Common.{◌≡◌, ◌≢◌, ℕ, ◌||◌, Bool, true, false, cond, List, [], ◌∷◌, reverse}
+use Rattle.std.proofs.Common.{Option, Some, None, refl, sym, ap, subst, ◌∙◌}
 use Rattle.std.specs.Str.{bytes_eq}
 use Rattle.std.specs.List.{AllByRecursion as Every}
 use Rattle.record_forest.specs.Members.{Has, Pairs}
@@ -23,55 +22,8 @@ use Rattle.manifest_layout.proofs.Sorted.{HoldAll, last_of}
 use Rattle.manifest_layout.proofs.Led.{HasFile, LedIn, all_led}
 use Rattle.manifest_layout.proofs.Grown.{Gives, grown_is}
 use Rattle.manifest_layout.proofs.Known.{known}
-use Rattle.manifest_layout.proofs.Sourced.{has_reverse, every_back}
+use Rattle.manifest_layout.proofs.Sourced.{has_reverse, every_back, same_number}
 use Rattle.image_build.proofs.InRomfs.{Apart}
-
--- more `file` lines are before a later line
-grows : (a b : ℕ) (t : Bool) (n x y : ℕ) → a ≤ b → x ≤ y
-    → (if t && nat_lt n a then x + 1 else x) ≤ (if t && nat_lt n b then y + 1 else y)
-grows a b false n x y h k = k
-grows a b true n x y h k =
-    elim (nat_lt n a) as (λ t. nat_lt n a ≡ t → (if t then x + 1 else x) ≤ (if nat_lt n b then y + 1 else y)) [
-      | true ↦ λ e. let l = ltb-true n a e in rw (lt-ltb n b (omega arith)) (omega arith)
-      | false ↦ λ e. elim (nat_lt n b) as (λ t. x ≤ (if t then y + 1 else y)) [ true ↦ omega arith | false ↦ k ]
-    ] refl
-
-sources_grow : (a b : ℕ) (ls : List Line) → a ≤ b → sources_before a ls ≤ sources_before b ls
-sources_grow a b [] h = omega arith
-sources_grow a b (l ∷ ls) h =
-    grows a b (is_file l.word) l.number (sources_before a ls) (sources_before b ls) h (sources_grow a b ls h)
-
-steps : (a b : ℕ) (t : Bool) (n x y : ℕ) → a ≤ b → x < y
-    → (if t && nat_lt n a then x + 1 else x) < (if t && nat_lt n b then y + 1 else y)
-steps a b false n x y h k = k
-steps a b true n x y h k =
-    elim (nat_lt n a) as (λ t. nat_lt n a ≡ t → (if t then x + 1 else x) < (if nat_lt n b then y + 1 else y)) [
-      | true ↦ λ e. let l = ltb-true n a e in rw (lt-ltb n b (omega arith)) (omega arith)
-      | false ↦ λ e. elim (nat_lt n b) as (λ t. x < (if t then y + 1 else y)) [ true ↦ omega arith | false ↦ k ]
-    ] refl
-
--- a `file` line is one of those before a later line
-sources_less : (b : ℕ) (x : Line) (ls : List Line) → Has (λ l. l ≡ x) ls → is_file x.word ≡ true → x.number < b
-    → sources_before x.number ls < sources_before b ls
-sources_less b x [] h f l = absurd h
-sources_less b x (y ∷ ls) (inl e) f l =
-    let w : is_file y.word ≡ true = ap (λ (z : Line). is_file z.word) e ∙ f in
-    let n : y.number ≡ x.number = ap (λ (z : Line). z.number) e in
-    let g = sources_grow x.number b ls (omega arith) in
-    rw (w, le-ltb y.number x.number (omega (arith, n)), lt-ltb y.number b (omega (arith, n))) (omega arith)
-sources_less b x (y ∷ ls) (inr h) f l =
-    steps x.number b (is_file y.word) y.number (sources_before x.number ls) (sources_before b ls) (omega arith)
-    (sources_less b x ls h f l)
-
-same_number : (x y : Line) (ls : List Line) → Has (λ l. l ≡ x) ls → Has (λ l. l ≡ y) ls → is_file x.word ≡ true
-    → is_file y.word ≡ true → sources_before x.number ls ≡ sources_before y.number ls → x.number ≡ y.number
-same_number x y ls h k f g e = elim (cases_lt x.number y.number) [
-  | inl l ↦ let s = sources_less y.number x ls h f l in absurd (omega (arith, e))
-  | inr l ↦ elim (cases_lt y.number x.number) [
-    | inl m ↦ let s = sources_less x.number y ls k g m in absurd (omega (arith, e))
-    | inr m ↦ omega arith
-  ]
-]
 
 -- a path that leads to a `file` line has its contents
 not_others : (w : Word) → is_file w ≡ true → (is_hard w || is_same w) ≡ false

@@ -5,6 +5,10 @@
 //! Proved in `laws`: each text and contents have exactly one answer. A check finds no fault in a
 //! built or streamed image, and what its superblock states is true of it. `specs/Builds.antt` has
 //! the answers of a build.
+//!
+//! Callers, proved: library_tests/src/examples/built.rt and streamed.rt. `stream` takes one buffer
+//! of 4,096 bytes, and requires as many sources as the plan has sizes, so test this first.
+//! `Sources` is a trait of three methods: `Slices` has them over memory, `file_sources` over files.
 #![tactic(auto)]
 
 mod build;

@@ -9,6 +9,10 @@
 //! one. Each call on the image answers from that tree. A check of the bytes up to the length of
 //! `reach_of` answers the same as one of the whole file. A refusal of the first 512 bytes is that
 //! of the whole file.
+//!
+//! A caller, proved: library_tests/src/examples/checked.rt. `Limits::usual()` allows 1,048,576
+//! references and 64 names on a path. The image borrows the bytes, and only the check takes memory.
+//! Match `AnyImage::Romfs` or `AnyImage::Cramfs` only for calls that a single format has.
 #![tactic(auto)]
 
 mod any;

@@ -8,6 +8,9 @@
 //! nothing if memory was refused. `count_gaps` returns exactly the number that `specs/Gaps.antt`
 //! defines, over the extents that a check tests for overlaps (`laws::of_the_tree`). `laws` also has
 //! what a reader needs to know of runs. `map` and `cat` allocate no memory.
+//!
+//! A caller of `map`, proved: library_tests/src/examples/mapped.rt. `cat` requires the number of a
+//! node of the image, which `path_walk::walk` returns.
 #![tactic(auto)]
 
 mod by_format;

@@ -5,6 +5,9 @@
 //! only if there is one. `path_of` composes the path of a name from those of its directories.
 //! `write_manifest` writes exactly the lines of `specs/Lines.antt`, or a prefix of them if the
 //! writer failed. Valid lines are read back exactly from their text (`laws`).
+//!
+//! A caller, proved: library_tests/src/examples/described.rt. `headline` says for which images the
+//! manifest means their tree.
 #![tactic(auto)]
 
 mod composing;

@@ -6,6 +6,9 @@
 //! was refused. Otherwise its plan has the items, the sections and the length of the layout, in
 //! each format. `manifest_layout` defines misfits and layouts, and `plan_types` the plan. Nothing
 //! is written, and no content is read.
+//!
+//! A caller, proved: library_tests/src/examples/planned.rt. `plan` requires as many sizes as the
+//! manifest has sources.
 #![tactic(auto)]
 
 mod error;

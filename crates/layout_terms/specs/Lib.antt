@@ -3,3 +3,4 @@ pub mod Files
 pub mod Items
 pub mod Bodies
 pub mod Placement
+pub mod Alignments

@@ -1,5 +1,5 @@
-//! Short, proved callers of the libraries. They are run as tests, and the CALLING.md of a library
-//! quotes its caller.
+//! Short, proved callers of the libraries, which are run as tests. The lib.rt of a library names
+//! its caller.
 //!
 //! Proved: the conditions of each call are met by the contracts of the calls before it. For
 //! example, `check` promises that a tree has at most 65 levels, which is the condition of `list`,

@@ -1,5 +1,5 @@
 //! Proved tests through several libraries, of what no contract and no case of `tests/cases` says,
-//! and short callers (`examples`), which are quoted in the CALLING.md of the libraries.
+//! and short callers of the libraries (`examples`).
 //!
 //! The tests are of words and windows of a buffer; streams that fail in the middle; sources that
 //! change or fail, and how far they are read; a file that is replaced; open files, and lent bytes

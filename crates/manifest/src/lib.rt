@@ -5,6 +5,10 @@
 //! of a text to its lines or its first fault (`specs/Grammar.antt`). If the grammar accepts each
 //! line behind those before it, exactly these lines are read back from their text
 //! (`laws::reads_back`). docs/MANIFEST.md explains the grammar by an example.
+//!
+//! A caller of `parse` and of `layout_plan`, proved: library_tests/src/examples/planned.rt.
+//! `sources` returns the names of the files that the image will hold; pass their sizes and contents
+//! in this order.
 #![tactic(auto)]
 
 mod entry;

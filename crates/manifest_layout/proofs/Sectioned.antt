@@ -17,7 +17,7 @@ use Rattle.manifest_layout.specs.Format.{len_of, sections_of, IsPlannedBy}
 use Rattle.manifest_layout.specs.Compact.{IsCompact}
 use Rattle.manifest_layout.specs.Misfit.{HasNoMisfit}
 use Rattle.manifest_layout.proofs.Fitting.{fitting}
-use Rattle.manifest_layout.proofs.Sourced.{align_of, sourced, have_in_cramfs, have_in_romfs}
+use Rattle.manifest_layout.proofs.Sourced.{align_of, sourced, have_alignments}
 
 -- contents of given sizes
 zeros : List ℕ → List (List ℕ)
@@ -54,11 +54,11 @@ compact_of : (f : Format) (m : ManifestLines) (cs : List (List ℕ)) → IsManif
 compact_of romfs m cs h n =
     let sizes = map length cs in
     romfs_compact.are_compact m.volume (root_of m.lines sizes) (tree_of m.lines sizes) cs (align_of m.lines)
-    (fitting romfs m cs h n) (have_in_romfs romfs m sizes h n)
+    (fitting romfs m cs h n) (have_alignments romfs m sizes h n)
 compact_of (cramfs o) m cs h n =
     let sizes = map length cs in
     cramfs_compact.are_compact o m.volume (root_of m.lines sizes) (tree_of m.lines sizes) cs (align_of m.lines)
-    (fitting (cramfs o) m cs h n) (have_in_cramfs (cramfs o) m sizes h n)
+    (fitting (cramfs o) m cs h n) (have_alignments (cramfs o) m sizes h n)
 
 pub compact : (f : Format) (m : ManifestLines) (sizes : List ℕ) → IsManifest m → HasNoMisfit f m sizes
     → IsCompact f m sizes

@@ -13,13 +13,12 @@ use Rattle.manifest.specs.declared.line.Word.{Word}
 use Rattle.manifest.specs.declared.line.Word.TheVariants.{Dir, File, Slink, Block, Character, Fifo, Socket, Hard, Same}
 use Rattle.manifest.specs.Lines.{ManifestLines, is_file, is_hard, filed}
 use Rattle.manifest.specs.Grammar.{IsManifest}
-use Rattle.manifest_tree.specs.Names.{Fill, no_bytes, text, source, Inode, Names, nothing, leaf, link, subdirectory}
+use Rattle.manifest_tree.specs.Names.{source, Inode, Names, nothing, leaf, link, subdirectory}
 use Rattle.manifest_tree.specs.Tree.{What, a_leaf, a_link, a_directory, what_by, sources_before, with_contents}
 use Rattle.manifest_tree.specs.Tree.{inode_by}
 use Rattle.manifest_tree.specs.Tree.{inode_of, grown, tree_of}
-use Rattle.romfs_layout.specs.Compact.{align_by as romfs_align_by, HaveAlignments as RomfsHaveAlignments}
+use Rattle.layout_terms.specs.Alignments.{align_by, HaveAlignments}
 use Rattle.cramfs_layout.specs.Items.{AreAlignedBy}
-use Rattle.cramfs_layout.specs.Compact.{align_by, HaveAlignments}
 use Rattle.formats.specs.Format.{Format}
 use Rattle.manifest_layout.specs.Compact.{is_source, align_or, source_align}
 use Rattle.manifest_layout.specs.Misfit.{HasNoMisfit}
@@ -68,7 +67,7 @@ sources_less b x (y ∷ ls) (inr h) f l =
     (sources_less b x ls h f l)
 
 -- two `file` lines with the same number of `file` lines before them are one line
-same_number : (x y : Line) (ls : List Line) → Has (λ l. l ≡ x) ls → Has (λ l. l ≡ y) ls → is_file x.word ≡ true
+pub same_number : (x y : Line) (ls : List Line) → Has (λ l. l ≡ x) ls → Has (λ l. l ≡ y) ls → is_file x.word ≡ true
     → is_file y.word ≡ true → sources_before x.number ls ≡ sources_before y.number ls → x.number ≡ y.number
 same_number x y ls h k f g e = elim (cases_lt x.number y.number) [
   | inl l ↦ let s = sources_less y.number x ls h f l in absurd (omega (arith, e))
@@ -130,23 +129,11 @@ aligned_by all (leaf name i after) h = ((λ k e. h.0 ∙ ap (align_by (align_of 
 aligned_by all (link name i after) h = aligned_by all after h.1
 aligned_by all (subdirectory name i own after) h = (aligned_by all own h.1, aligned_by all after h.2)
 
-in_cramfs : (all : List Line) (n : Names) → HoldAll (IsSourced all) n → HaveAlignments (align_of all) n
-in_cramfs all nothing h = tt
-in_cramfs all (leaf name i after) h = (h.0, in_cramfs all after h.1)
-in_cramfs all (link name i after) h = in_cramfs all after h.1
-in_cramfs all (subdirectory name i own after) h = (in_cramfs all own h.1, in_cramfs all after h.2)
-
--- the same in romfs, which has the same alignments
-same_align : (align : ℕ → ℕ) (f : Fill) → align_by align f ≡ romfs_align_by align f
-same_align align no_bytes = refl
-same_align align (text t) = refl
-same_align align (source k) = refl
-
-in_romfs : (all : List Line) (n : Names) → HoldAll (IsSourced all) n → RomfsHaveAlignments (align_of all) n
-in_romfs all nothing h = tt
-in_romfs all (leaf name i after) h = (h.0 ∙ same_align (align_of all) i.fill, in_romfs all after h.1)
-in_romfs all (link name i after) h = in_romfs all after h.1
-in_romfs all (subdirectory name i own after) h = (in_romfs all own h.1, in_romfs all after h.2)
+alignments : (all : List Line) (n : Names) → HoldAll (IsSourced all) n → HaveAlignments (align_of all) n
+alignments all nothing h = tt
+alignments all (leaf name i after) h = (h.0, alignments all after h.1)
+alignments all (link name i after) h = alignments all after h.1
+alignments all (subdirectory name i own after) h = (alignments all own h.1, alignments all after h.2)
 
 contents_sourced : (all : List Line) (sizes : List ℕ) (l : Line) (o : Option Line)
     → Pairs (λ l k. l.number ≢ k.number) all
@@ -250,10 +237,6 @@ pub sourced : (f : Format) (m : ManifestLines) (sizes : List ℕ) → IsManifest
 sourced f m sizes h none = aligned_by m.lines (tree_of m.lines sizes) (all_sourced f m sizes h none)
 
 -- the files ask for these alignments
-pub have_in_cramfs : (f : Format) (m : ManifestLines) (sizes : List ℕ) → IsManifest m → HasNoMisfit f m sizes
+pub have_alignments : (f : Format) (m : ManifestLines) (sizes : List ℕ) → IsManifest m → HasNoMisfit f m sizes
     → HaveAlignments (align_of m.lines) (tree_of m.lines sizes)
-have_in_cramfs f m sizes h none = in_cramfs m.lines (tree_of m.lines sizes) (all_sourced f m sizes h none)
-
-pub have_in_romfs : (f : Format) (m : ManifestLines) (sizes : List ℕ) → IsManifest m → HasNoMisfit f m sizes
-    → RomfsHaveAlignments (align_of m.lines) (tree_of m.lines sizes)
-have_in_romfs f m sizes h none = in_romfs m.lines (tree_of m.lines sizes) (all_sourced f m sizes h none)
+have_alignments f m sizes h none = alignments m.lines (tree_of m.lines sizes) (all_sourced f m sizes h none)

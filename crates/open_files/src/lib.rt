@@ -7,6 +7,9 @@
 //! is open, and the answer and the state after each call, with its refusals in their order.
 //! `specs/Lending.antt` defines what is lent, and `specs/Sessions.antt` mounts and sessions.
 //!
+//! A caller of `Files`, proved: library_tests/src/examples/opened.rt. `lend` and `map` return a
+//! `Piece`, which can outlive its `Files`.
+//!
 //! `one_image` has the calls of `Files` over references to an image and its slots, for code that is
 //! generic over the image.
 #![tactic(auto)]

@@ -8,6 +8,10 @@
 //! `specs/Resolution.antt` defines where a path leads, after POSIX.1-2017, 4.13 "Pathname
 //! Resolution", `specs/Graft.antt` defines mounts, and `specs/Compared.antt` the names that a
 //! look-up compares.
+//!
+//! Callers, proved: library_tests/src/examples/walked.rt, and library_tests/src/mounted.rt, which
+//! tests mounts before a call. `walk` borrows the image by `&mut`, because an image may remember
+//! look-ups (`lookups`).
 #![tactic(auto)]
 
 mod budget;

@@ -7,6 +7,10 @@
 //! ended early. No failed write or flush is ignored, and as many flushes succeed as replies are
 //! written. `laws` has what holds for the replies of several sessions. No memory is taken, except
 //! by look-ups in an image that remembers them, such as a `Cached` one.
+//!
+//! A caller of `serve`, proved: library_tests/src/examples/served.rt. `Plain` makes a `ByteRead` of
+//! each `Read`, and a `ByteWrite` of each `Write`. After `quit` the rest of the input is unread. An
+//! image with a cache or with indices (`lookups`) is served in the same way.
 #![tactic(auto)]
 
 mod calls;

@@ -7,6 +7,11 @@
 //! `specs/Tree.antt` defines a tree: a node has its attributes and a body, and a directory's body
 //! is a list of names with nodes. `specs/Image.antt` defines an image. Nothing here allocates
 //! memory.
+//!
+//! A caller of `list`, proved: library_tests/src/examples/checked.rt. `list` and `Walk` require a
+//! tree of at most 65 levels, which `image_check::check` guarantees. An implementation of
+//! `TreeImage` defines its tree as a function of the value (`sample_image` is the smallest). A
+//! layer over another image, such as those of `lookups`, has the tree of that image.
 #![tactic(auto)]
 
 mod dots;
