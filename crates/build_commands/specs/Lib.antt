@@ -5,6 +5,5 @@ pub mod Scanned
 pub mod Seen
 pub mod Printed
 pub mod Changed
-pub mod Elf
 pub mod Warnings
 pub mod Reported

@@ -7,7 +7,6 @@
 
 mod building;
 pub mod changes;
-pub mod elf;
 pub mod inventory;
 pub mod laws;
 mod nearest;

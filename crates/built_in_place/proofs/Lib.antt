@@ -1,3 +1,4 @@
 pub mod Under
 pub mod Built
 pub mod Regular
+pub mod InRomfs

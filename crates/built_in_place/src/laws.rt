@@ -1,6 +1,7 @@
 //! What Linux maps of the files of a built image.
-ghost use Rattle.std.specs.Prelude.{◌≡◌, ℕ, List, Ok, Option};
+ghost use Rattle.std.specs.Prelude.{◌≡◌, ◌<◌, ◌^◌, ℕ, List, Ok, Option, length};
 ghost use Rattle.built_in_place.specs.Files.{AreInPlace, AreMappedWhole, HoldsImage};
+ghost use Rattle.built_in_place.specs.Romfs.{AreMappedInRomfs, FillsPages};
 ghost use Rattle.cramfs_format.specs.declared.order.Order.{Order};
 ghost use Rattle.cramfs_mapping.specs.Physmem.{Flash};
 ghost use Rattle.formats.specs.Format.{cramfs};
@@ -13,6 +14,7 @@ ghost use Rattle.manifest.specs.Grammar.{manifest_of};
 ghost use Rattle.manifest.specs.Lines.{ManifestLines};
 ghost use Rattle.plan_types.specs.Plans.{Planned};
 ghost use Rattle.rom_tree.specs.Tree.{Node};
+ghost use Rattle.romfs_format.specs.Tree.{RomfsTree};
 
 /// Shows that each file of a built cramfs image, whose ALIGN is a multiple of 4,096, is mapped in
 /// place by Linux, if the image is at the front of flash whose address is such a multiple, too.
@@ -44,7 +46,16 @@ pub fn built_is_mapped_whole()
     cramfs_mapping::laws::run_is_whole();
 }
 
-/// Shows both for an image that was streamed, whatever the sources are.
+/// Shows that Linux without an MMU maps all pages of each file of a romfs image to the flash,
+/// whatever its ALIGN and whoever made the image, if the image is at the front of the flash, which
+/// has whole pages.
+pub fn romfs_is_mapped()
+    ensures { (bytes : List ℕ) (most deepest : ℕ) (t : Node) (f : Flash)
+        → RomfsTree bytes most deepest t → length bytes < 2 ^ 32 → FillsPages f bytes
+        → AreMappedInRomfs f t }
+{}
+
+/// Shows the first two for an image that was streamed, whatever the sources are.
 pub fn streamed_is_in_place()
     ensures in_place { (o : Order) (text : List ℕ) (p : Planned) (known : Option (List (List ℕ)))
         (old new : Option (List ℕ)) (t : Node) (f : Flash) → (is : IsPlanOfText text p)

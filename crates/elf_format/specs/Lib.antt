@@ -2,3 +2,4 @@ pub mod Header
 pub mod Loading
 pub mod Dynamic
 pub mod Mapped
+pub mod InPlace

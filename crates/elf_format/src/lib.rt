@@ -9,6 +9,7 @@
 mod dynamic;
 mod error;
 mod header;
+mod in_place;
 mod loading;
 mod mapped;
 mod numbers;
@@ -17,6 +18,7 @@ mod program;
 pub use dynamic::moves_text;
 pub use error::ElfError;
 pub use header::{Header, elf_kind};
+pub use in_place::{HEAD_LEN, needs_pages};
 pub use loading::Loading;
 pub use mapped::has_fixed;
 pub use numbers::{Class, Order};

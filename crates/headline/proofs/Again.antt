@@ -22,6 +22,7 @@ use Rattle.rom_tree.specs.Tree.{Node}
 use Rattle.image_manifest.specs.Lines.{member_lines}
 use Rattle.image_manifest.specs.Sources.{file_contents}
 use Rattle.image_manifest.specs.Describable.{IsDescribedWhole}
+use Rattle.image_manifest.specs.declared.rules.FileRules.{FileRules}
 use Rattle.image_manifest.proofs.Ways.{neither}
 use Rattle.headline.specs.Alike.{AreAlike}
 use Rattle.headline.proofs.OfRomfs.{front_bytes, front_zeros}
@@ -51,14 +52,14 @@ same_lines : (n m : ManifestLines) → ◌≡◌ {A = Result ManifestLines Fault
 same_lines n m h = cc
 
 -- so what is built of an image's manifest is like the image
-pub built_again : (m : Image) (volume prefix : List ℕ) → IsDescribedWhole m volume prefix
+pub built_again : (m : Image) (volume : List ℕ) (rules : FileRules) → IsDescribedWhole m volume rules
     → (n : ManifestLines) (bytes : List ℕ) (t : Node)
-    → manifest_of (manifest_text volume (member_lines m prefix)) ≡ Ok n
+    → manifest_of (manifest_text volume (member_lines m rules)) ≡ Ok n
     → IsMeant bytes t (file_contents m) n (map length (file_contents m)) → AreAlike m.bytes m.tree bytes t
-built_again m volume prefix h n bytes t e k =
-    let same : n ≡ as_read volume (member_lines m prefix) =
-    same_lines n (as_read volume (member_lines m prefix)) (sym e ∙ h.read) in
-    alike m.bytes bytes m.tree t (file_contents m) (as_read volume (member_lines m prefix))
+built_again m volume rules h n bytes t e k =
+    let same : n ≡ as_read volume (member_lines m rules) =
+    same_lines n (as_read volume (member_lines m rules)) (sym e ∙ h.read) in
+    alike m.bytes bytes m.tree t (file_contents m) (as_read volume (member_lines m rules))
     (map length (file_contents m)) h.means
     (subst (λ (v : ManifestLines). IsMeant bytes t (file_contents m) v (map length (file_contents m))) same k)
 

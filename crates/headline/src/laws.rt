@@ -16,7 +16,9 @@ ghost use Rattle.image_info.specs.Volumes.{volume_of};
 ghost use Rattle.image_manifest.specs.Lines.{member_lines};
 ghost use Rattle.image_manifest.specs.Members.{has_long_path};
 ghost use Rattle.image_manifest.specs.Sources.{file_contents};
-ghost use Rattle.image_manifest.specs.Describable.{HaveNoZeros, IsLawfulTree, IsDescribedWhole};
+ghost use Rattle.image_manifest.specs.Describable.{AreValid, HaveNoZeros, IsLawfulTree};
+ghost use Rattle.image_manifest.specs.Describable.{IsDescribedWhole};
+ghost use Rattle.image_manifest.specs.declared.rules.FileRules.{FileRules};
 ghost use Rattle.headline.specs.Alike.{AreAlike};
 
 /// Shows that a manifest can describe the tree of an image that the check accepts: its root is a
@@ -31,9 +33,9 @@ pub fn accepted_is_lawful()
 /// link's text has a zero byte and no path has more than 4,095 bytes.
 pub fn accepted_is_taken()
     ensures { (all : List ℕ) (limits : Limits) (m : Image) (report : Report)
-        (volume prefix : List ℕ) → All (λ b. b < 256) all → Shows all limits m report
-        → All (λ b. b < 256) prefix
-        → AreTaken [] (first_number volume) (member_lines m prefix)
+        (volume : List ℕ) (rules : FileRules) → All (λ b. b < 256) all → Shows all limits m report
+        → AreValid rules
+        → AreTaken [] (first_number volume) (member_lines m rules)
         ↔ (HaveNoZeros m × (has_long_path m.tree ≡ false)) }
 {
     accepted_is_lawful();
@@ -46,9 +48,9 @@ pub fn accepted_is_taken()
 /// 4,095 bytes, and the volume's name has to be valid.
 pub fn accepted_is_described()
     ensures { (all : List ℕ) (limits : Limits) (m : Image) (report : Report)
-        (volume prefix : List ℕ) → All (λ b. b < 256) all → Shows all limits m report
-        → IsVolume volume → All (λ b. b < 256) prefix → HaveNoZeros m
-        → has_long_path m.tree ≡ false → IsDescribedWhole m volume prefix }
+        (volume : List ℕ) (rules : FileRules) → All (λ b. b < 256) all → Shows all limits m report
+        → IsVolume volume → AreValid rules → HaveNoZeros m
+        → has_long_path m.tree ≡ false → IsDescribedWhole m volume rules }
 {
     accepted_is_lawful();
     image_manifest::laws::described_whole();
@@ -58,11 +60,11 @@ pub fn accepted_is_described()
 /// link's text may have a zero byte, no path more than 4,095 bytes, and the volume's name at most
 /// 255.
 pub fn extracted_is_described()
-    ensures { (all : List ℕ) (limits : Limits) (s : AnyImage) (prefix : List ℕ)
+    ensures { (all : List ℕ) (limits : Limits) (s : AnyImage) (rules : FileRules)
         → All (λ b. b < 256) all → Shows all limits (any_view s) (report_of s)
-        → length (volume_of s) ≤ 255 → All (λ b. b < 256) prefix → HaveNoZeros (any_view s)
+        → length (volume_of s) ≤ 255 → AreValid rules → HaveNoZeros (any_view s)
         → has_long_path (any_view s).tree ≡ false
-        → IsDescribedWhole (any_view s) (volume_of s) prefix }
+        → IsDescribedWhole (any_view s) (volume_of s) rules }
 {
     accepted_is_described();
 }
@@ -71,9 +73,9 @@ pub fn extracted_is_described()
 /// image, if the sources have the contents of its files. Whatever tree the manifest means has the
 /// same at each path, and the same paths share a file.
 pub fn built_again_is_alike()
-    ensures { (m : Image) (volume prefix : List ℕ) → IsDescribedWhole m volume prefix
+    ensures { (m : Image) (volume : List ℕ) (rules : FileRules) → IsDescribedWhole m volume rules
         → (n : ManifestLines) (bytes : List ℕ) (t : Node)
-        → manifest_of (manifest_text volume (member_lines m prefix)) ≡ Ok n
+        → manifest_of (manifest_text volume (member_lines m rules)) ≡ Ok n
         → IsMeant bytes t (file_contents m) n (map length (file_contents m))
         → AreAlike m.bytes m.tree bytes t }
 {}

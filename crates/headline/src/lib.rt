@@ -26,7 +26,7 @@ pub mod durable;
 pub mod laws;
 pub mod naming;
 
-ghost use Rattle.std.specs.Prelude.{◌≡◌, ◌⊎◌, ◌*◌, ◌<◌, ◌≤◌, ℕ, List, Option, Some, Ok, false};
+ghost use Rattle.std.specs.Prelude.{◌≡◌, ◌⊎◌, ◌*◌, ◌^◌, ◌<◌, ◌≤◌, ℕ, List, Option, Some, Ok, false};
 ghost use Rattle.std.specs.Prelude.{length, map};
 ghost use Rattle.headline.specs.Headline.{IsServedUnder, IsMeantUnder, IsServedAsMeant};
 ghost use Rattle.headline.specs.Headline.{IsServedAsGiven, IsUnserved};
@@ -38,6 +38,7 @@ ghost use Rattle.image_check.specs.Checked.{HasTree, IsFaultless};
 ghost use Rattle.image_manifest.specs.Lines.{member_lines};
 ghost use Rattle.image_manifest.specs.Sources.{file_contents};
 ghost use Rattle.image_manifest.specs.Describable.{IsDescribedWhole};
+ghost use Rattle.image_manifest.specs.declared.rules.FileRules.{FileRules};
 ghost use Rattle.headline.specs.Alike.{AreAlike};
 ghost use Rattle.image_stream.specs.Outcomes.{IsWritten};
 ghost use Rattle.manifest.specs.Printed.{manifest_text};
@@ -45,6 +46,7 @@ ghost use Rattle.layout_terms.specs.Placement.{IsRun};
 ghost use Rattle.manifest.specs.Grammar.{manifest_of};
 ghost use Rattle.manifest.specs.Lines.{ManifestLines};
 ghost use Rattle.built_in_place.specs.Files.{AreInPlace, AreMappedWhole, HoldsImage};
+ghost use Rattle.built_in_place.specs.Romfs.{AreMappedInRomfs, FillsPages};
 ghost use Rattle.cramfs_format.specs.declared.order.Order.{Order};
 ghost use Rattle.cramfs_mapping.specs.Physmem.{Flash};
 ghost use Rattle.formats.specs.Format.{Format, cramfs};
@@ -61,6 +63,7 @@ ghost use Rattle.rom_fields.specs.Written.{Output};
 ghost use Rattle.rom_tree.specs.Image.{Image};
 ghost use Rattle.rom_tree.specs.Tree.{Node, places_of};
 ghost use Rattle.rom_tree.specs.declared.types.Limits.{Limits};
+ghost use Rattle.romfs_format.specs.Tree.{RomfsTree};
 
 /// States what follows from the clause of `rom_commands::serve_under`, for all bytes and all
 /// limits. Either lines are answered from the one tree that the format gives the bytes, or the
@@ -83,7 +86,8 @@ ghost use Rattle.rom_tree.specs.declared.types.Limits.{Limits};
 /// Linux maps the pages of each file whose ALIGN is a multiple of 4,096 to the flash itself: each
 /// page at the flash's address plus the page's offset, in each mapping that cannot be written,
 /// except a last page with other data behind the file. Without an MMU, Linux maps each such mapping
-/// of any file whole.
+/// of any file whole, and each mapping of a file of any romfs image at the front of flash of whole
+/// pages, if the name in the file's record has at most 128 bytes.
 pub fn headline()
     ensures accepted { (limits : Limits) (bytes : List ℕ) (r₀ r : Input) (w₀ w : Output)
         (o : Serving) → ServingEndsUnder limits bytes r₀ r w₀ w o
@@ -112,11 +116,15 @@ pub fn headline()
         (m : ManifestLines) (t : Node) (f : Flash) → Builds (cramfs o) text contents (Ok bytes)
         → manifest_of text ≡ Ok m → HasTree bytes usual_limits t → HoldsImage f bytes
         → AreInPlace o f t m × AreMappedWhole o f t m }
+    ensures in_romfs { (bytes : List ℕ) (most deepest : ℕ) (t : Node) (f : Flash)
+        → RomfsTree bytes most deepest t → length bytes < 2 ^ 32 → FillsPages f bytes
+        → AreMappedInRomfs f t }
     ensures sealed { (f : Format) (text : List ℕ) (contents : List (List ℕ)) (bytes : List ℕ)
         → Builds f text contents (Ok bytes) → HasSeal f bytes }
 {
     built_in_place::laws::built_is_in_place();
     built_in_place::laws::built_is_mapped_whole();
+    built_in_place::laws::romfs_is_mapped();
     image_build::laws::built_is_accepted();
     image_build::laws::built_is_placed();
     image_check::laws::one_tree();
@@ -129,9 +137,9 @@ pub fn headline()
 /// same paths share a file. `crate::laws::extracted_is_described` says which accepted images a
 /// manifest describes whole.
 pub fn built_again()
-    ensures { (m : Image) (volume prefix : List ℕ) (f : Format) (bytes : List ℕ)
-        → IsDescribedWhole m volume prefix
-        → Builds f (manifest_text volume (member_lines m prefix)) (file_contents m) (Ok bytes)
+    ensures { (m : Image) (volume : List ℕ) (rules : FileRules) (f : Format) (bytes : List ℕ)
+        → IsDescribedWhole m volume rules
+        → Builds f (manifest_text volume (member_lines m rules)) (file_contents m) (Ok bytes)
         → IsFaultless bytes usual_limits
         × ((t : Node) → HasTree bytes usual_limits t → AreAlike m.bytes m.tree bytes t) }
 {

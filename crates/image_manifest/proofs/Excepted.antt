@@ -22,6 +22,7 @@ use Rattle.image_manifest.proofs.Followed.{all_taken, in_tree, is_led, lines_apa
 use Rattle.image_manifest.proofs.Lined.{length-lines, names_nodes}
 use Rattle.image_manifest.proofs.ReadBack.{lawful}
 use Rattle.image_manifest.proofs.Ways.{Among, among_back, first, later, neither, or_false}
+use Rattle.image_manifest.specs.declared.rules.FileRules.{FileRules}
 
 -- No path is too long.
 
@@ -48,13 +49,13 @@ line_sound latest n [] l ys k e t =
     let f : n ≡ k = omega (arith, e) in subst (λ (v : ℕ). fault_of latest (numbered v l) ≡ None) f t.1
 line_sound latest n (x ∷ xs) l ys k e t = line_sound (numbered n x ∷ latest) (n + 1) xs l ys k (omega (arith, e)) t.2
 
-name_sound : (m : Image) (prefix : List ℕ) (j : ℕ) (b : List Name) (n : Name) (a : List Name)
-    → AreTaken [] j (lines_behind m prefix [] (b ++ n ∷ a))
-    → fault_of (all_taken m prefix j b) (numbered (j + length b) (line_behind m prefix b n)) ≡ None
-name_sound m prefix j b n a t =
-    line_sound [] j (lines_behind m prefix [] b) (line_behind m prefix b n) (lines_behind m prefix (b ++ n ∷ []) a)
-    (j + length b) (omega (arith, length-lines m prefix [] b))
-    (subst (λ (v : List Line). AreTaken [] j v) (lines_apart m prefix [] b n a) t)
+name_sound : (m : Image) (rules : FileRules) (j : ℕ) (b : List Name) (n : Name) (a : List Name)
+    → AreTaken [] j (lines_behind m rules [] (b ++ n ∷ a))
+    → fault_of (all_taken m rules j b) (numbered (j + length b) (line_behind m rules b n)) ≡ None
+name_sound m rules j b n a t =
+    line_sound [] j (lines_behind m rules [] b) (line_behind m rules b n) (lines_behind m rules (b ++ n ∷ []) a)
+    (j + length b) (omega (arith, length-lines m rules [] b))
+    (subst (λ (v : List Line). AreTaken [] j v) (lines_apart m rules [] b n a) t)
 
 sound_text : (ls : List Line) (l : Line) → fault_of ls l ≡ None → is_bad_text l.word l.text ≡ false
 unfolding fault_of
@@ -85,28 +86,28 @@ named_node [] x h = elim h [ ]
 named_node (n ∷ ns) x here = (n, first, refl)
 named_node (n ∷ ns) x (there h) = let r = named_node ns x h in (r.0, later r.1, r.2)
 
-no_zeros : (m : Image) (prefix : List ℕ) (j : ℕ) → AreTaken [] j (lines_behind m prefix [] (names m.tree))
+no_zeros : (m : Image) (rules : FileRules) (j : ℕ) → AreTaken [] j (lines_behind m rules [] (names m.tree))
     → HaveNoZeros m
-no_zeros m prefix j t x h l =
+no_zeros m rules j t x h l =
     let n = named_node (names m.tree) x (subst (λ (v : List Node). IsIn x v) (sym (names_nodes m.tree)) h) in
-    let r = is_led m prefix j (names m.tree) n.0 t n.1 in
+    let r = is_led m rules j (names m.tree) n.0 t n.1 in
     let o : Name = r.origin in
     let stands : Among o (names m.tree) =
     subst (λ (v : List Name). Among o v) (sym r.parts) (among_back o r.before (o ∷ r.after) first) in
     let same : o.node ≡ x =
     m.coherent o.node n.0.node (in_tree m.tree o stands) (in_tree m.tree n.0 n.1) r.number ∙ n.2 in
-    let sound = name_sound m prefix j r.before o r.after
-    (subst (λ (v : List Name). AreTaken [] j (lines_behind m prefix [] v)) r.parts t) in
-    let e : line_behind m prefix r.before o ≡ node_line m prefix o.path o.node = ap (line_by m prefix o) r.own in
-    let own = subst (λ (v : Line). fault_of (all_taken m prefix j r.before) (numbered (j + length r.before) v)
+    let sound = name_sound m rules j r.before o r.after
+    (subst (λ (v : List Name). AreTaken [] j (lines_behind m rules [] v)) r.parts t) in
+    let e : line_behind m rules r.before o ≡ node_line m rules o.path o.node = ap (line_by m rules o) r.own in
+    let own = subst (λ (v : Line). fault_of (all_taken m rules j r.before) (numbered (j + length r.before) v)
     ≡ None) e sound in
-    let text = sound_text (all_taken m prefix j r.before)
-    (numbered (j + length r.before) (node_line m prefix o.path o.node)) own in
+    let text = sound_text (all_taken m rules j r.before)
+    (numbered (j + length r.before) (node_line m rules o.path o.node)) own in
     subst (λ (v : Node). list_any (λ b. b == 0) (contents_of m.bytes v) ≡ false) same
-    (link_text m (prefix ++ o.path) o.node (ap is_link same ∙ l) text)
+    (link_text m (rules.directory.now ++ o.path) o.node (ap is_link same ∙ l) text)
 
-pub excepted : (m : Image) (prefix : List ℕ) (j : ℕ) → AreTaken [] j (member_lines m prefix)
+pub excepted : (m : Image) (rules : FileRules) (j : ℕ) → AreTaken [] j (member_lines m rules)
     → HaveNoZeros m × (has_long_path m.tree ≡ false)
 unfolding member_lines
-excepted m prefix j t =
-    (no_zeros m prefix j t, none_long (names m.tree) (λ n i. lawful m prefix [] j [] (names m.tree) n t i))
+excepted m rules j t =
+    (no_zeros m rules j t, none_long (names m.tree) (λ n i. lawful m rules [] j [] (names m.tree) n t i))

@@ -20,6 +20,7 @@ use Rattle.rom_tree.specs.Tree.{Node, IsIn, here, there, ino_of, is_directory, k
 use Rattle.image_manifest.specs.Lines.{first_name, hard_line, line_behind, line_by, lines_behind, node_line, word_of}
 use Rattle.image_manifest.proofs.Lined.{length-lines, names_nodes}
 use Rattle.image_manifest.proofs.Ways.{true_is_not_false, Among, first, later}
+use Rattle.image_manifest.specs.declared.rules.FileRules.{FileRules}
 
 -- The node of a name is one of the tree's.
 
@@ -94,34 +95,34 @@ line_led latest n (x ∷ xs) l ys k e t = line_led (numbered n x ∷ latest) (n 
 
 -- The lines of an image's names.
 
-pub lines_apart : (m : Image) (prefix : List ℕ) (pre b : List Name) (n : Name) (a : List Name)
-    → lines_behind m prefix pre (b ++ n ∷ a)
-    ≡ lines_behind m prefix pre b ++ line_behind m prefix (pre ++ b) n
-    ∷ lines_behind m prefix ((pre ++ b) ++ n ∷ []) a
-lines_apart m prefix pre [] n a =
-    ap (λ (v : List Name). line_behind m prefix v n ∷ lines_behind m prefix (v ++ n ∷ []) a) (sym (append-nil pre))
-lines_apart m prefix pre (x ∷ b) n a =
-    ap (λ (v : List Line). line_behind m prefix pre x ∷ v)
-    (lines_apart m prefix (pre ++ x ∷ []) b n a
-    ∙ ap (λ (v : List Name). lines_behind m prefix (pre ++ x ∷ []) b ++ line_behind m prefix v n
-    ∷ lines_behind m prefix (v ++ n ∷ []) a) (append_assoc pre (x ∷ []) b))
+pub lines_apart : (m : Image) (rules : FileRules) (pre b : List Name) (n : Name) (a : List Name)
+    → lines_behind m rules pre (b ++ n ∷ a)
+    ≡ lines_behind m rules pre b ++ line_behind m rules (pre ++ b) n
+    ∷ lines_behind m rules ((pre ++ b) ++ n ∷ []) a
+lines_apart m rules pre [] n a =
+    ap (λ (v : List Name). line_behind m rules v n ∷ lines_behind m rules (v ++ n ∷ []) a) (sym (append-nil pre))
+lines_apart m rules pre (x ∷ b) n a =
+    ap (λ (v : List Line). line_behind m rules pre x ∷ v)
+    (lines_apart m rules (pre ++ x ∷ []) b n a
+    ∙ ap (λ (v : List Name). lines_behind m rules (pre ++ x ∷ []) b ++ line_behind m rules v n
+    ∷ lines_behind m rules (v ++ n ∷ []) a) (append_assoc pre (x ∷ []) b))
 
 -- all lines, from the last to the first
-abbrev pub all_taken : Image → List ℕ → ℕ → List Name → List Line
-all_taken m prefix j ns = taken_after [] j (lines_behind m prefix [] ns)
+abbrev pub all_taken : Image → FileRules → ℕ → List Name → List Line
+all_taken m rules j ns = taken_after [] j (lines_behind m rules [] ns)
 
-name_led : (m : Image) (prefix : List ℕ) (j : ℕ) (b : List Name) (n : Name) (a : List Name)
-    → AreTaken [] j (lines_behind m prefix [] (b ++ n ∷ a))
-    → (led (all_taken m prefix j (b ++ n ∷ a)) (line_behind m prefix b n).path
-    ≡ led_by (all_taken m prefix j b) (line_behind m prefix b n) (j + length b))
-    × (filed (all_taken m prefix j (b ++ n ∷ a)) (line_behind m prefix b n).path
-    ≡ filed_by (all_taken m prefix j b) (line_behind m prefix b n) (j + length b))
-name_led m prefix j b n a t =
-    let xs : List Line = lines_behind m prefix [] b in
-    let l : Line = line_behind m prefix b n in
-    let ys : List Line = lines_behind m prefix (b ++ n ∷ []) a in
-    let e = lines_apart m prefix [] b n a in
-    let h = line_led [] j xs l ys (j + length b) (omega (arith, length-lines m prefix [] b))
+name_led : (m : Image) (rules : FileRules) (j : ℕ) (b : List Name) (n : Name) (a : List Name)
+    → AreTaken [] j (lines_behind m rules [] (b ++ n ∷ a))
+    → (led (all_taken m rules j (b ++ n ∷ a)) (line_behind m rules b n).path
+    ≡ led_by (all_taken m rules j b) (line_behind m rules b n) (j + length b))
+    × (filed (all_taken m rules j (b ++ n ∷ a)) (line_behind m rules b n).path
+    ≡ filed_by (all_taken m rules j b) (line_behind m rules b n) (j + length b))
+name_led m rules j b n a t =
+    let xs : List Line = lines_behind m rules [] b in
+    let l : Line = line_behind m rules b n in
+    let ys : List Line = lines_behind m rules (b ++ n ∷ []) a in
+    let e = lines_apart m rules [] b n a in
+    let h = line_led [] j xs l ys (j + length b) (omega (arith, length-lines m rules [] b))
     (subst (λ (v : List Line). AreTaken [] j v) e t) in (
       ap (λ (v : List Line). led (taken_after [] j v) l.path) e ∙ h.0,
       ap (λ (v : List Line). filed (taken_after [] j v) l.path) e ∙ h.1,
@@ -150,28 +151,28 @@ not_same Socket = refl
 not_same Fifo = refl
 
 -- a name that has a line of its own leads to it
-pub own_led : (m : Image) (prefix : List ℕ) (j : ℕ) (b : List Name) (o : Name) (a : List Name)
-    → AreTaken [] j (lines_behind m prefix [] (b ++ o ∷ a)) → other b o ≡ None
-    → led (all_taken m prefix j (b ++ o ∷ a)) o.path ≡ Some (numbered (j + length b) (node_line m prefix o.path o.node))
-own_led m prefix j b o a t h =
-    let l : Line = node_line m prefix o.path o.node in
-    let e : line_behind m prefix b o ≡ l = ap (line_by m prefix o) h in
-    let f = subst (λ (v : Line). led (all_taken m prefix j (b ++ o ∷ a)) v.path
-    ≡ led_by (all_taken m prefix j b) v (j + length b)) e (name_led m prefix j b o a t).0 in
-    f ∙ ap (λ (x : Bool). cond x (led (all_taken m prefix j b) l.text) (Some (numbered (j + length b) l)))
+pub own_led : (m : Image) (rules : FileRules) (j : ℕ) (b : List Name) (o : Name) (a : List Name)
+    → AreTaken [] j (lines_behind m rules [] (b ++ o ∷ a)) → other b o ≡ None
+    → led (all_taken m rules j (b ++ o ∷ a)) o.path ≡ Some (numbered (j + length b) (node_line m rules o.path o.node))
+own_led m rules j b o a t h =
+    let l : Line = node_line m rules o.path o.node in
+    let e : line_behind m rules b o ≡ l = ap (line_by m rules o) h in
+    let f = subst (λ (v : Line). led (all_taken m rules j (b ++ o ∷ a)) v.path
+    ≡ led_by (all_taken m rules j b) v (j + length b)) e (name_led m rules j b o a t).0 in
+    f ∙ ap (λ (x : Bool). cond x (led (all_taken m rules j b) l.text) (Some (numbered (j + length b) l)))
     (not_hard (kind_of o.node))
 
 -- and, if it is a regular file's, it has the contents of it
-pub own_filed : (m : Image) (prefix : List ℕ) (j : ℕ) (b : List Name) (o : Name) (a : List Name)
-    → AreTaken [] j (lines_behind m prefix [] (b ++ o ∷ a)) → other b o ≡ None → kind_of o.node ≡ Regular
-    → filed (all_taken m prefix j (b ++ o ∷ a)) o.path
-    ≡ Some (numbered (j + length b) (node_line m prefix o.path o.node))
-own_filed m prefix j b o a t h k =
-    let l : Line = node_line m prefix o.path o.node in
-    let e : line_behind m prefix b o ≡ l = ap (line_by m prefix o) h in
-    let f = subst (λ (v : Line). filed (all_taken m prefix j (b ++ o ∷ a)) v.path
-    ≡ filed_by (all_taken m prefix j b) v (j + length b)) e (name_led m prefix j b o a t).1 in
-    f ∙ ap (λ (x : Kind). cond (is_hard (word_of x) || is_same (word_of x)) (filed (all_taken m prefix j b) l.text)
+pub own_filed : (m : Image) (rules : FileRules) (j : ℕ) (b : List Name) (o : Name) (a : List Name)
+    → AreTaken [] j (lines_behind m rules [] (b ++ o ∷ a)) → other b o ≡ None → kind_of o.node ≡ Regular
+    → filed (all_taken m rules j (b ++ o ∷ a)) o.path
+    ≡ Some (numbered (j + length b) (node_line m rules o.path o.node))
+own_filed m rules j b o a t h k =
+    let l : Line = node_line m rules o.path o.node in
+    let e : line_behind m rules b o ≡ l = ap (line_by m rules o) h in
+    let f = subst (λ (v : Line). filed (all_taken m rules j (b ++ o ∷ a)) v.path
+    ≡ filed_by (all_taken m rules j b) v (j + length b)) e (name_led m rules j b o a t).1 in
+    f ∙ ap (λ (x : Kind). cond (is_hard (word_of x) || is_same (word_of x)) (filed (all_taken m rules j b) l.text)
     (cond (is_file (word_of x)) (Some (numbered (j + length b) l)) None)) k
 
 -- the first name of a node
@@ -208,21 +209,21 @@ none_by true o h = refl
 none_by false o h = h
 
 -- The name whose line a name's path leads to.
-pub record IsLed (m : Image) (prefix : List ℕ) (j : ℕ) (ns : List Name) (n : Name) : Type 0 where
+pub record IsLed (m : Image) (rules : FileRules) (j : ℕ) (ns : List Name) (n : Name) : Type 0 where
   pub before : List Name
   pub origin : Name
   pub after : List Name
   pub parts : ns ≡ before ++ origin ∷ after
   pub own : other before origin ≡ None
   pub number : ino_of origin.node ≡ ino_of n.node
-  pub line : led (all_taken m prefix j ns) n.path
-      ≡ Some (numbered (j + length before) (node_line m prefix origin.path origin.node))
+  pub line : led (all_taken m rules j ns) n.path
+      ≡ Some (numbered (j + length before) (node_line m rules origin.path origin.node))
 
-led_from : (m : Image) (prefix : List ℕ) (j : ℕ) (b : List Name) (n : Name) (a : List Name)
-    → AreTaken [] j (lines_behind m prefix [] (b ++ n ∷ a)) → IsLed m prefix j (b ++ n ∷ a) n
-led_from m prefix j b n a t = by (is_directory n.node) (first_name (ino_of n.node) b) refl refl
+led_from : (m : Image) (rules : FileRules) (j : ℕ) (b : List Name) (n : Name) (a : List Name)
+    → AreTaken [] j (lines_behind m rules [] (b ++ n ∷ a)) → IsLed m rules j (b ++ n ∷ a) n
+led_from m rules j b n a t = by (is_directory n.node) (first_name (ino_of n.node) b) refl refl
   where
-    own : other b n ≡ None → IsLed m prefix j (b ++ n ∷ a) n
+    own : other b n ≡ None → IsLed m rules j (b ++ n ∷ a) n
     own h = record {
       before = b;
       origin = n;
@@ -230,25 +231,25 @@ led_from m prefix j b n a t = by (is_directory n.node) (first_name (ino_of n.nod
       parts = refl;
       own = h;
       number = refl;
-      line = own_led m prefix j b n a t h;
+      line = own_led m rules j b n a t h;
     }
 
     further : (old : Name) → other b n ≡ Some old → first_name (ino_of n.node) b ≡ Some old
-        → IsLed m prefix j (b ++ n ∷ a) n
+        → IsLed m rules j (b ++ n ∷ a) n
     further old h f =
         let r = first_is (ino_of n.node) b old f in
         let alone : other r.before old ≡ None =
         none_by (is_directory old.node) (first_name (ino_of old.node) r.before)
         (ap (λ (v : ℕ). first_name v r.before) r.number ∙ r.none) in
         let l : Line = hard_line n.path old.path in
-        let e : line_behind m prefix b n ≡ l = ap (line_by m prefix n) h in
-        let g = subst (λ (v : Line). led (all_taken m prefix j (b ++ n ∷ a)) v.path
-        ≡ led_by (all_taken m prefix j b) v (j + length b)) e (name_led m prefix j b n a t).0 in
-        let front = taken_front [] j (lines_behind m prefix [] b)
-        (line_behind m prefix b n ∷ lines_behind m prefix (b ++ n ∷ []) a)
-        (subst (λ (v : List Line). AreTaken [] j v) (lines_apart m prefix [] b n a) t) in
-        let k = own_led m prefix j r.before old r.after
-        (subst (λ (v : List Name). AreTaken [] j (lines_behind m prefix [] v)) r.parts front) alone in
+        let e : line_behind m rules b n ≡ l = ap (line_by m rules n) h in
+        let g = subst (λ (v : Line). led (all_taken m rules j (b ++ n ∷ a)) v.path
+        ≡ led_by (all_taken m rules j b) v (j + length b)) e (name_led m rules j b n a t).0 in
+        let front = taken_front [] j (lines_behind m rules [] b)
+        (line_behind m rules b n ∷ lines_behind m rules (b ++ n ∷ []) a)
+        (subst (λ (v : List Line). AreTaken [] j v) (lines_apart m rules [] b n a) t) in
+        let k = own_led m rules j r.before old r.after
+        (subst (λ (v : List Name). AreTaken [] j (lines_behind m rules [] v)) r.parts front) alone in
         record {
           before = r.before;
           origin = old;
@@ -256,11 +257,11 @@ led_from m prefix j b n a t = by (is_directory n.node) (first_name (ino_of n.nod
           parts = ap (λ (v : List Name). v ++ n ∷ a) r.parts ∙ append_assoc r.before (old ∷ r.after) (n ∷ a);
           own = alone;
           number = r.number;
-          line = g ∙ ap (λ (v : List Name). led (all_taken m prefix j v) old.path) r.parts ∙ k;
+          line = g ∙ ap (λ (v : List Name). led (all_taken m rules j v) old.path) r.parts ∙ k;
         }
 
     by : (d : Bool) (o : Option Name) → is_directory n.node ≡ d → first_name (ino_of n.node) b ≡ o
-        → IsLed m prefix j (b ++ n ∷ a) n
+        → IsLed m rules j (b ++ n ∷ a) n
     by true o e f = own (ap (λ (x : Bool). cond x None (first_name (ino_of n.node) b)) e)
     by false None e f = own (ap (λ (x : Bool). cond x None (first_name (ino_of n.node) b)) e ∙ f)
     by false (Some old) e f = further old (ap (λ (x : Bool). cond x None (first_name (ino_of n.node) b)) e ∙ f) f
@@ -271,9 +272,9 @@ parted n [] h = elim h [ ]
 parted n (x ∷ ns) first = ([], ns, refl)
 parted n (x ∷ ns) (later h) = let r = parted n ns h in (x ∷ r.0, r.1, ap (λ (v : List Name). x ∷ v) r.2)
 
-pub is_led : (m : Image) (prefix : List ℕ) (j : ℕ) (ns : List Name) (n : Name)
-    → AreTaken [] j (lines_behind m prefix [] ns) → Among n ns → IsLed m prefix j ns n
-is_led m prefix j ns n t h =
+pub is_led : (m : Image) (rules : FileRules) (j : ℕ) (ns : List Name) (n : Name)
+    → AreTaken [] j (lines_behind m rules [] ns) → Among n ns → IsLed m rules j ns n
+is_led m rules j ns n t h =
     let r = parted n ns h in
-    subst (λ (v : List Name). IsLed m prefix j v n) (sym r.2)
-    (led_from m prefix j r.0 n r.1 (subst (λ (v : List Name). AreTaken [] j (lines_behind m prefix [] v)) r.2 t))
+    subst (λ (v : List Name). IsLed m rules j v n) (sym r.2)
+    (led_from m rules j r.0 n r.1 (subst (λ (v : List Name). AreTaken [] j (lines_behind m rules [] v)) r.2 t))

@@ -2,33 +2,36 @@
 use Rattle.std.proofs.Common.{◌≡◌, ℕ, zero, suc, ◌+◌, ◌<◌, ◌≤◌, Bool, true, false, cond, List, [], ◌∷◌, ◌++◌, length}
 use Rattle.std.proofs.Common.{map, take, drop, take-append-drop, get_or, Option, Some, None, option_map, refl, sym, ap}
 use Rattle.std.proofs.Common.{ap₂, subst, ◌∙◌, append_assoc, append-nil, length-append, arith, codes}
-use Rattle.std.specs.Prelude.{◌==◌, IfSome, decimal}
+use Rattle.std.specs.Prelude.{◌≢◌, ◌==◌, IfSome, decimal, if◌then◌else◌}
 use Rattle.std.specs.List.{list_any}
 use Rattle.std.proofs.lemmas.Bool.Decides.{nat_tests}
-use Rattle.std.proofs.lemmas.Fmt.{decimal_digit}
 use Rattle.std.proofs.lemmas.List.{length-take-le, map-append, take_more, take_all}
 use Rattle.manifest.specs.declared.line.Line.{Line}
 use Rattle.manifest.specs.Printed.{line_text, lines_text}
 use Rattle.rom_fields.specs.Texts.{escaped, octal}
 use Rattle.rom_fields.specs.Written.{Puts, Sink}
 use Rattle.rom_fields.proofs.Joins.{chain}
-use Rattle.rom_tree.specs.declared.types.Kind.TheVariants.{Regular}
+use Rattle.rom_tree.specs.declared.types.Kind.TheVariants.{Regular, Symlink}
 use Rattle.rom_tree.specs.declared.types.Stat.{Stat}
-use Rattle.rom_tree.specs.Image.{Image, image_node}
+use Rattle.rom_tree.specs.Image.{Image, contents_of, image_node, stat_of}
 use Rattle.rom_tree.specs.Names.{Name, named, names, node_names, entries_names, path_below}
 use Rattle.rom_tree.specs.Tree.{Node, node, directory, regular, symlink, block, character, socket, fifo, Entries}
+use Rattle.rom_tree.specs.Runs.{front_of}
 use Rattle.rom_tree.specs.Tree.{no_entries, entry, IsIn, here, there, ino_of, is_directory, nodes, entries_nodes}
+use Rattle.rom_tree.specs.Tree.{places_of}
+use Rattle.elf_format.specs.InPlace.{needs_pages}
 use Rattle.rom_tree.proofs.Nodes.{node_at-in}
 use Rattle.rom_tree.proofs.Paths.{escaped_both}
 use Rattle.image_manifest.specs.declared.naming.Member.{Member}
-use Rattle.image_manifest.specs.Lines.{first_name, hard_line, line_behind, line_by, line_with, lines_behind}
-use Rattle.image_manifest.specs.Lines.{member_lines}
+use Rattle.image_manifest.specs.Lines.{file_align, first_name, hard_line, line_behind, line_by, line_with}
+use Rattle.image_manifest.specs.Lines.{lines_behind, member_lines, node_line}
 use Rattle.image_manifest.specs.Members.{AreMembers, Known, all_behind, first_behind, is_long, members_of, place_of}
 use Rattle.image_manifest.specs.Members.{known_behind, known_of}
 use Rattle.image_manifest.proofs.Behind.{as_many}
 use Rattle.image_manifest.proofs.Ways.{or_false}
 use Rattle.image_manifest.specs.Composed.{path_at, path_by, way_at, ways_of}
 use Rattle.image_manifest.specs.Known.{line_from, line_described}
+use Rattle.image_manifest.specs.declared.rules.FileRules.{FileRules}
 
 -- a path with its attributes, and what is behind them
 apart : (e o u g t rest : List ℕ) → (e ++ 32 ∷ (o ++ 32 ∷ (u ++ 32 ∷ (g ++ t)))) ++ rest
@@ -41,20 +44,61 @@ apart e o u g t rest =
     (append_assoc u (32 ∷ (g ++ t)) rest ∙ ap (λ (v : List ℕ). u ++ 32 ∷ v) (append_assoc g t rest)))
 
 -- the line of a file by its parts
-pub file_text : (path prefix : List ℕ) (s : Stat) → s.kind ≡ Regular
-    → line_text (line_with path (prefix ++ path) s) ++ 10 ∷ []
+pub file_text : (path folder : List ℕ) (align : ℕ) (s : Stat) → s.kind ≡ Regular
+    → line_text (line_with path (folder ++ path) align s) ++ 10 ∷ []
     ≡ codes "file " ++ (escaped path ++ 32
     ∷ (octal s.mode ++ 32 ∷ (decimal s.uid ++ 32
-    ∷ (decimal s.gid ++ (codes " 4 " ++ (escaped prefix ++ (escaped path ++ 10 ∷ [])))))))
+    ∷ (decimal s.gid ++ 32 ∷ (decimal align ++ 32 ∷ (escaped folder ++ (escaped path ++ 10 ∷ [])))))))
 unfolding line_text
-file_text path prefix s h =
-    rw (h, decimal_digit 4 (omega arith), escaped_both prefix path)
+file_text path folder align s h =
+    rw (h, escaped_both folder path)
     (ap (λ (v : List ℕ). codes "file " ++ v)
     (apart (escaped path) (octal s.mode) (decimal s.uid) (decimal s.gid)
-    (codes " 4 " ++ (escaped prefix ++ escaped path)) (10 ∷ [])
+    (32 ∷ (decimal align ++ 32 ∷ (escaped folder ++ escaped path))) (10 ∷ [])
     ∙ ap (λ (v : List ℕ). escaped path ++ 32
-    ∷ (octal s.mode ++ 32 ∷ (decimal s.uid ++ 32 ∷ (decimal s.gid ++ (codes " 4 " ++ v)))))
-    (append_assoc (escaped prefix) (escaped path) (10 ∷ []))))
+    ∷ (octal s.mode ++ 32 ∷ (decimal s.uid ++ 32 ∷ (decimal s.gid ++ 32 ∷ v))))
+    (append_assoc (decimal align) (32 ∷ (escaped folder ++ escaped path)) (10 ∷ [])
+    ∙ ap (λ (v : List ℕ). decimal align ++ 32 ∷ v) (append_assoc (escaped folder) (escaped path) (10 ∷ [])))))
+
+-- the alignment of a file, by the test of its bytes
+pub aligned_by : (m : Image) (rules : FileRules) (x : Node) (t : Bool)
+    → t ≡ needs_pages (front_of m.bytes (places_of x)) → (if t then rules.align else 4) ≡ file_align m rules x
+unfolding file_align
+aligned_by m rules x t e = ap (λ (s : Bool). if s then rules.align else 4) e
+
+-- the line of a link
+pub link_line : (m : Image) (rules : FileRules) (path text : List ℕ) (s : Stat) (x : Node) → s ≡ stat_of x
+    → s.kind ≡ Symlink → text ≡ contents_of m.bytes x
+    → line_with path text (file_align m rules x) s ≡ node_line m rules path x
+link_line m rules path text s x e k t = by x e t
+  where
+    by : (x : Node) → s ≡ stat_of x → text ≡ contents_of m.bytes x
+        → line_with path text (file_align m rules x) s ≡ node_line m rules path x
+    by (node a (directory es)) e t = let z = sym k ∙ ap (λ (v : Stat). v.kind) e in absurd (cc)
+    by (node a (regular ps)) e t = let z = sym k ∙ ap (λ (v : Stat). v.kind) e in absurd (cc)
+    by (node a (symlink ps)) e t =
+        ap (λ (v : List ℕ). line_with path v (file_align m rules (node a (symlink ps))) s) t
+        ∙ ap (line_with path (contents_of m.bytes (node a (symlink ps)))
+        (file_align m rules (node a (symlink ps)))) e
+    by (node a block) e t = let z = sym k ∙ ap (λ (v : Stat). v.kind) e in absurd (cc)
+    by (node a character) e t = let z = sym k ∙ ap (λ (v : Stat). v.kind) e in absurd (cc)
+    by (node a socket) e t = let z = sym k ∙ ap (λ (v : Stat). v.kind) e in absurd (cc)
+    by (node a fifo) e t = let z = sym k ∙ ap (λ (v : Stat). v.kind) e in absurd (cc)
+
+-- the line of a node that has no bytes
+pub other_line : (m : Image) (rules : FileRules) (path : List ℕ) (s : Stat) (x : Node) → s ≡ stat_of x
+    → s.kind ≢ Symlink → s.kind ≢ Regular
+    → line_with path [] (file_align m rules x) s ≡ node_line m rules path x
+other_line m rules path s x e k r = by x e
+  where
+    by : (x : Node) → s ≡ stat_of x → line_with path [] (file_align m rules x) s ≡ node_line m rules path x
+    by (node a (directory es)) e = ap (line_with path [] (file_align m rules (node a (directory es)))) e
+    by (node a (regular ps)) e = absurd (r (ap (λ (v : Stat). v.kind) e))
+    by (node a (symlink ps)) e = absurd (k (ap (λ (v : Stat). v.kind) e))
+    by (node a block) e = ap (line_with path [] (file_align m rules (node a block))) e
+    by (node a character) e = ap (line_with path [] (file_align m rules (node a character))) e
+    by (node a socket) e = ap (line_with path [] (file_align m rules (node a socket))) e
+    by (node a fifo) e = ap (line_with path [] (file_align m rules (node a fifo))) e
 
 -- The path of the member at an index.
 
@@ -140,18 +184,18 @@ behind_at before (n ∷ ns) (suc i) d e h =
     behind_at (before ++ n ∷ []) ns i d e (omega (arith, h))
     ∙ ap (λ (v : List Name). known_behind v (get_or ns i e)) (append_assoc before (n ∷ []) (take i ns))
 
-line_at : (m : Image) (prefix : List ℕ) (before ns : List Name) (i : ℕ) (d : Line) (e : Name) → i < length ns
-    → get_or (lines_behind m prefix before ns) i d ≡ line_behind m prefix (before ++ take i ns) (get_or ns i e)
-line_at m prefix before [] i d e h = absurd (omega (arith, h))
-line_at m prefix before (n ∷ ns) zero d e h = ap (λ (v : List Name). line_behind m prefix v n) (sym (append-nil before))
-line_at m prefix before (n ∷ ns) (suc i) d e h =
-    line_at m prefix (before ++ n ∷ []) ns i d e (omega (arith, h))
-    ∙ ap (λ (v : List Name). line_behind m prefix v (get_or ns i e)) (append_assoc before (n ∷ []) (take i ns))
+line_at : (m : Image) (rules : FileRules) (before ns : List Name) (i : ℕ) (d : Line) (e : Name) → i < length ns
+    → get_or (lines_behind m rules before ns) i d ≡ line_behind m rules (before ++ take i ns) (get_or ns i e)
+line_at m rules before [] i d e h = absurd (omega (arith, h))
+line_at m rules before (n ∷ ns) zero d e h = ap (λ (v : List Name). line_behind m rules v n) (sym (append-nil before))
+line_at m rules before (n ∷ ns) (suc i) d e h =
+    line_at m rules (before ++ n ∷ []) ns i d e (omega (arith, h))
+    ∙ ap (λ (v : List Name). line_behind m rules v (get_or ns i e)) (append_assoc before (n ∷ []) (take i ns))
 
-pub length-lines : (m : Image) (prefix : List ℕ) (before ns : List Name)
-    → length (lines_behind m prefix before ns) ≡ length ns
-length-lines m prefix before [] = refl
-length-lines m prefix before (n ∷ ns) = ap suc (length-lines m prefix (before ++ n ∷ []) ns)
+pub length-lines : (m : Image) (rules : FileRules) (before ns : List Name)
+    → length (lines_behind m rules before ns) ≡ length ns
+length-lines m rules before [] = refl
+length-lines m rules before (n ∷ ns) = ap suc (length-lines m rules (before ++ n ∷ []) ns)
 
 map_at : (ms : List Member) (i : ℕ) (d : Member) (t : Known) → i < length ms
     → get_or (map known_of ms) i t ≡ known_of (get_or ms i d)
@@ -211,47 +255,48 @@ first_within false (Some j) k l h i = omega (arith, h, i)
 
 -- The line of a member.
 
-by_first : (m : Image) (prefix : List ℕ) (ms : List Member) (ns : List Name) (n : Name) (o : Option ℕ) (q : Option Name)
+by_first : (m : Image) (rules : FileRules) (ms : List Member) (ns : List Name) (n : Name) (o : Option ℕ)
+    (q : Option Name)
     → map path_by (ways_of ms) ≡ map (λ v. v.path) ns
     → IfSome o (λ j. j < length ns) → option_map (name_path ns) o ≡ option_map (λ v. v.path) q
-    → line_from m prefix ms n.path n.node o ≡ line_by m prefix n q
-by_first m prefix ms ns n None None p l h = refl
-by_first m prefix ms ns n None (Some v) p l h = absurd cc
-by_first m prefix ms ns n (Some i) None p l h = absurd cc
-by_first m prefix ms ns n (Some i) (Some v) p l h =
+    → line_from m rules ms n.path n.node o ≡ line_by m rules n q
+by_first m rules ms ns n None None p l h = refl
+by_first m rules ms ns n None (Some v) p l h = absurd cc
+by_first m rules ms ns n (Some i) None p l h = absurd cc
+by_first m rules ms ns n (Some i) (Some v) p l h =
     let e : name_path ns i ≡ v.path = cc in
     ap (hard_line n.path) (path_here ms ns i n p l ∙ path_named ns i n l ∙ e)
 
-by_kind : (m : Image) (prefix : List ℕ) (ms : List Member) (ns : List Name) (n : Name) (t : Bool) (o : Option ℕ)
+by_kind : (m : Image) (rules : FileRules) (ms : List Member) (ns : List Name) (n : Name) (t : Bool) (o : Option ℕ)
     (q : Option Name) → map path_by (ways_of ms) ≡ map (λ v. v.path) ns
     → IfSome (cond t None o) (λ j. j < length ns) → option_map (name_path ns) o ≡ option_map (λ v. v.path) q
-    → line_from m prefix ms n.path n.node (cond t None o) ≡ line_by m prefix n (cond t None q)
-by_kind m prefix ms ns n true o q p l h = refl
-by_kind m prefix ms ns n false o q p l h = by_first m prefix ms ns n o q p l h
+    → line_from m rules ms n.path n.node (cond t None o) ≡ line_by m rules n (cond t None q)
+by_kind m rules ms ns n true o q p l h = refl
+by_kind m rules ms ns n false o q p l h = by_first m rules ms ns n o q p l h
 
 -- what a member has of a name makes the name's line
-line_as : (m : Image) (prefix : List ℕ) (ms : List Member) (before rest : List Name) (n : Name)
+line_as : (m : Image) (rules : FileRules) (ms : List Member) (before rest : List Name) (n : Name)
     → map path_by (ways_of ms) ≡ map (λ v. v.path) (before ++ rest)
-    → line_from m prefix ms n.path n.node (first_behind before n.node) ≡ line_behind m prefix before n
-line_as m prefix ms before rest n p =
+    → line_from m rules ms n.path n.node (first_behind before n.node) ≡ line_behind m rules before n
+line_as m rules ms before rest n p =
     let number : ℕ = ino_of n.node in
-    by_kind m prefix ms (before ++ rest) n (is_directory n.node) (place_of number before) (first_name number before) p
+    by_kind m rules ms (before ++ rest) n (is_directory n.node) (place_of number before) (first_name number before) p
     (first_within (is_directory n.node) (place_of number before) (length before) (length (before ++ rest))
     (omega (arith, length-append before rest)) (place_within number before))
     (first_path number before rest)
 
 -- what a member at an index is, and its line
-pub record IsLined (m : Image) (prefix : List ℕ) (ms : List Member) (i : ℕ) (x : Member) : Type 0 where
+pub record IsLined (m : Image) (rules : FileRules) (ms : List Member) (i : ℕ) (x : Member) : Type 0 where
   pub node : Node
   pub at : image_node m x.node.0 ≡ Some node
   pub first : IfSome x.first (λ j. j < length ms)
-  pub within : i < length (member_lines m prefix)
-  pub line : (d : Line) → get_or (member_lines m prefix) i d ≡ line_described m prefix ms i node x.first
+  pub within : i < length (member_lines m rules)
+  pub line : (d : Line) → get_or (member_lines m rules) i d ≡ line_described m rules ms i node x.first
 
-pub lined : (m : Image) (prefix : List ℕ) (ms : List Member) (i : ℕ) (d : Member) → AreMembers m ms → i < length ms
-    → IsLined m prefix ms i (get_or ms i d)
+pub lined : (m : Image) (rules : FileRules) (ms : List Member) (i : ℕ) (d : Member) → AreMembers m ms → i < length ms
+    → IsLined m rules ms i (get_or ms i d)
 unfolding members_of member_lines
-lined m prefix ms i d h l =
+lined m rules ms i d h l =
     let ns : List Name = names m.tree in
     let e : Name = named [] [] m.tree in
     let t : Known = known_behind [] e in
@@ -271,17 +316,17 @@ lined m prefix ms i d h l =
       first = subst (λ (o : Option ℕ). IfSome o (λ j. j < length ms)) (sym (ap (λ (v : Known). v.first) known))
           (first_within (is_directory n.node) (place_of number before) (length before) (length ms) few
           (place_within number before));
-      within = omega (arith, k, length-lines m prefix [] ns);
-      line = λ x. line_at m prefix [] ns i x e k ∙ sym (line_as m prefix ms before (drop i ns) n paths)
-          ∙ ap₂ (λ (p : List ℕ) (o : Option ℕ). line_from m prefix ms p n.node o) (sym (path_here ms ns i e h.paths k))
+      within = omega (arith, k, length-lines m rules [] ns);
+      line = λ x. line_at m rules [] ns i x e k ∙ sym (line_as m rules ms before (drop i ns) n paths)
+          ∙ ap₂ (λ (p : List ℕ) (o : Option ℕ). line_from m rules ms p n.node o) (sym (path_here ms ns i e h.paths k))
           (sym (ap (λ (v : Known). v.first) known));
     }
 
 -- as many lines as members
-pub as_many_lines : (m : Image) (prefix : List ℕ) (ms : List Member) → AreMembers m ms
-    → length (member_lines m prefix) ≡ length ms
+pub as_many_lines : (m : Image) (rules : FileRules) (ms : List Member) → AreMembers m ms
+    → length (member_lines m rules) ≡ length ms
 unfolding members_of member_lines
-as_many_lines m prefix ms h = length-lines m prefix [] (names m.tree) ∙ sym (as_many ms (names m.tree) h.known)
+as_many_lines m rules ms h = length-lines m rules [] (names m.tree) ∙ sym (as_many ms (names m.tree) h.known)
 
 -- The lines so far.
 

@@ -19,6 +19,7 @@ use Rattle.image_manifest.specs.Lines.{line_behind, line_by, lines_behind}
 use Rattle.image_manifest.proofs.Followed.{other, other_path}
 use Rattle.image_manifest.proofs.Plain.{PathsDiffer, has_path}
 use Rattle.image_manifest.proofs.Ways.{true_is_not_false, Among, first, later, neither}
+use Rattle.image_manifest.specs.declared.rules.FileRules.{FileRules}
 
 -- A line has names exactly if it has their path.
 
@@ -93,11 +94,11 @@ named_at {X} f ls path k ks e h s =
 
 -- The lines of an image's names.
 
-pub line_path : (m : Image) (prefix : List ℕ) (before : List Name) (n : Name)
-    → (line_behind m prefix before n).path ≡ n.path
-line_path m prefix before n = by (other before n)
+pub line_path : (m : Image) (rules : FileRules) (before : List Name) (n : Name)
+    → (line_behind m rules before n).path ≡ n.path
+line_path m rules before n = by (other before n)
   where
-    by : (o : Option Name) → (line_by m prefix n o).path ≡ n.path
+    by : (o : Option Name) → (line_by m rules n o).path ≡ n.path
     by None = refl
     by (Some old) = refl
 
@@ -106,17 +107,17 @@ some_if true l o h = refl
 some_if false l o h = h
 
 -- each name has a line
-pub has_line : (m : Image) (prefix : List ℕ) (j : ℕ) (before ns : List Name) (n : Name) → Among n ns
-    → is_some (line_at (numbered_from j (lines_behind m prefix before ns)) n.path) ≡ true
-has_line m prefix j before [] n h = elim h [ ]
-has_line m prefix j before (k ∷ ns) n first =
-    let rest : Option Line = line_at (numbered_from (j + 1) (lines_behind m prefix (before ++ n ∷ []) ns)) n.path in
-    ap (λ (b : Bool). is_some (cond b (Some (numbered j (line_behind m prefix before n))) rest))
-    ((bytes_decides (line_behind m prefix before n).path n.path).1 (line_path m prefix before n))
-has_line m prefix j before (k ∷ ns) n (later h) =
-    some_if (bytes_eq (line_behind m prefix before k).path n.path) (numbered j (line_behind m prefix before k))
-    (line_at (numbered_from (j + 1) (lines_behind m prefix (before ++ k ∷ []) ns)) n.path)
-    (has_line m prefix (j + 1) (before ++ k ∷ []) ns n h)
+pub has_line : (m : Image) (rules : FileRules) (j : ℕ) (before ns : List Name) (n : Name) → Among n ns
+    → is_some (line_at (numbered_from j (lines_behind m rules before ns)) n.path) ≡ true
+has_line m rules j before [] n h = elim h [ ]
+has_line m rules j before (k ∷ ns) n first =
+    let rest : Option Line = line_at (numbered_from (j + 1) (lines_behind m rules (before ++ n ∷ []) ns)) n.path in
+    ap (λ (b : Bool). is_some (cond b (Some (numbered j (line_behind m rules before n))) rest))
+    ((bytes_decides (line_behind m rules before n).path n.path).1 (line_path m rules before n))
+has_line m rules j before (k ∷ ns) n (later h) =
+    some_if (bytes_eq (line_behind m rules before k).path n.path) (numbered j (line_behind m rules before k))
+    (line_at (numbered_from (j + 1) (lines_behind m rules (before ++ k ∷ []) ns)) n.path)
+    (has_line m rules (j + 1) (before ++ k ∷ []) ns n h)
 
 -- A name of a line with these names.
 pub record HasNames (ns : List Name) (q : List (List ℕ)) : Type 0 where
@@ -124,21 +125,21 @@ pub record HasNames (ns : List Name) (q : List (List ℕ)) : Type 0 where
   pub among : Among name ns
   pub names : is_named q (names_of name.path) ≡ true
 
-pub named_name : (m : Image) (prefix : List ℕ) (j : ℕ) (before ns : List Name) (q : List (List ℕ)) (l : Line)
-    → line_named (numbered_from j (lines_behind m prefix before ns)) q ≡ Some l → HasNames ns q
-named_name m prefix j before [] q l h = absurd (cc)
-named_name m prefix j before (n ∷ ns) q l h =
-    let own : Line = numbered j (line_behind m prefix before n) in
+pub named_name : (m : Image) (rules : FileRules) (j : ℕ) (before ns : List Name) (q : List (List ℕ)) (l : Line)
+    → line_named (numbered_from j (lines_behind m rules before ns)) q ≡ Some l → HasNames ns q
+named_name m rules j before [] q l h = absurd (cc)
+named_name m rules j before (n ∷ ns) q l h =
+    let own : Line = numbered j (line_behind m rules before n) in
     elim (is_named q (names_of own.path)) as
     (λ t. is_named q (names_of own.path) ≡ t
-    → cond t (Some own) (line_named (numbered_from (j + 1) (lines_behind m prefix (before ++ n ∷ []) ns)) q)
+    → cond t (Some own) (line_named (numbered_from (j + 1) (lines_behind m rules (before ++ n ∷ []) ns)) q)
     ≡ Some l → HasNames (n ∷ ns) q) [
       | true ↦ λ e g. record {
         name = n;
         among = first;
-        names = ap (λ (v : List ℕ). is_named q (names_of v)) (sym (line_path m prefix before n)) ∙ e;
+        names = ap (λ (v : List ℕ). is_named q (names_of v)) (sym (line_path m rules before n)) ∙ e;
       }
-      | false ↦ λ e g. let r = named_name m prefix (j + 1) (before ++ n ∷ []) ns q l g in record
+      | false ↦ λ e g. let r = named_name m rules (j + 1) (before ++ n ∷ []) ns q l g in record
           { name = r.name; among = later r.among; names = r.names }
     ] refl h
 
@@ -156,38 +157,38 @@ good_path : (root : Bool) (o : Option (List (List ℕ))) → is_bad_path root o 
 good_path root None h = absurd (cc)
 good_path root (Some q) h = refl
 
-pub lawful : (m : Image) (prefix : List ℕ) (latest : List Line) (j : ℕ) (before ns : List Name) (n : Name)
-    → AreTaken latest j (lines_behind m prefix before ns) → Among n ns → is_some (names_of n.path) ≡ true
-lawful m prefix latest j before [] n t h = elim h [ ]
-lawful m prefix latest j before (k ∷ ns) n t first =
-    let l : Line = line_behind m prefix before n in
-    ap (λ (v : List ℕ). is_some (names_of v)) (sym (line_path m prefix before n))
+pub lawful : (m : Image) (rules : FileRules) (latest : List Line) (j : ℕ) (before ns : List Name) (n : Name)
+    → AreTaken latest j (lines_behind m rules before ns) → Among n ns → is_some (names_of n.path) ≡ true
+lawful m rules latest j before [] n t h = elim h [ ]
+lawful m rules latest j before (k ∷ ns) n t first =
+    let l : Line = line_behind m rules before n in
+    ap (λ (v : List ℕ). is_some (names_of v)) (sym (line_path m rules before n))
     ∙ good_path (is_dir l.word) (names_of l.path) (sound_path latest (numbered j l) t.1)
-lawful m prefix latest j before (k ∷ ns) n t (later h) =
-    lawful m prefix (numbered j (line_behind m prefix before k) ∷ latest) (j + 1) (before ++ k ∷ []) ns n t.2 h
+lawful m rules latest j before (k ∷ ns) n t (later h) =
+    lawful m rules (numbered j (line_behind m rules before k) ∷ latest) (j + 1) (before ++ k ∷ []) ns n t.2 h
 
 -- No two of them have one path.
 
-none_later : (m : Image) (prefix : List ℕ) (latest : List Line) (j : ℕ) (before ns : List Name) (p : List ℕ)
-    → AreTaken latest j (lines_behind m prefix before ns) → is_some (line_at latest p) ≡ true
+none_later : (m : Image) (rules : FileRules) (latest : List Line) (j : ℕ) (before ns : List Name) (p : List ℕ)
+    → AreTaken latest j (lines_behind m rules before ns) → is_some (line_at latest p) ≡ true
     → has_path p ns ≡ false
-none_later m prefix latest j before [] p t h = refl
-none_later m prefix latest j before (n ∷ ns) p t h =
-    let l : Line = line_behind m prefix before n in
+none_later m rules latest j before [] p t h = refl
+none_later m rules latest j before (n ∷ ns) p t h =
+    let l : Line = line_behind m rules before n in
     neither (bytes_eq n.path p) (has_path p ns)
-    (ap (λ (v : List ℕ). bytes_eq v p) (sym (line_path m prefix before n)) ∙ other_path latest j l p t.1 h)
-    (none_later m prefix (numbered j l ∷ latest) (j + 1) (before ++ n ∷ []) ns p t.2
+    (ap (λ (v : List ℕ). bytes_eq v p) (sym (line_path m rules before n)) ∙ other_path latest j l p t.1 h)
+    (none_later m rules (numbered j l ∷ latest) (j + 1) (before ++ n ∷ []) ns p t.2
     (some_if (bytes_eq l.path p) (numbered j l) (line_at latest p) h))
 
-pub paths_differ : (m : Image) (prefix : List ℕ) (latest : List Line) (j : ℕ) (before ns : List Name)
-    → AreTaken latest j (lines_behind m prefix before ns) → PathsDiffer ns
-paths_differ m prefix latest j before [] t = tt
-paths_differ m prefix latest j before (n ∷ ns) t =
-    let l : Line = line_behind m prefix before n in (
-      none_later m prefix (numbered j l ∷ latest) (j + 1) (before ++ n ∷ []) ns n.path t.2
+pub paths_differ : (m : Image) (rules : FileRules) (latest : List Line) (j : ℕ) (before ns : List Name)
+    → AreTaken latest j (lines_behind m rules before ns) → PathsDiffer ns
+paths_differ m rules latest j before [] t = tt
+paths_differ m rules latest j before (n ∷ ns) t =
+    let l : Line = line_behind m rules before n in (
+      none_later m rules (numbered j l ∷ latest) (j + 1) (before ++ n ∷ []) ns n.path t.2
           (ap (λ (b : Bool). is_some (cond b (Some (numbered j l)) (line_at latest n.path)))
-          ((bytes_decides l.path n.path).1 (line_path m prefix before n))),
-      paths_differ m prefix (numbered j l ∷ latest) (j + 1) (before ++ n ∷ []) ns t.2,
+          ((bytes_decides l.path n.path).1 (line_path m rules before n))),
+      paths_differ m rules (numbered j l ∷ latest) (j + 1) (before ++ n ∷ []) ns t.2,
     )
 
 -- a name among others has its path there

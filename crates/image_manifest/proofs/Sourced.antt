@@ -15,6 +15,7 @@ use Rattle.rom_tree.specs.Tree.{is_directory, is_regular}
 use Rattle.image_manifest.specs.Lines.{first_name, line_behind, line_by, lines_behind, member_lines}
 use Rattle.image_manifest.specs.Sources.{AreSources, has_source, source_names, source_names_behind, sources_behind}
 use Rattle.image_manifest.specs.Sources.{file_contents}
+use Rattle.image_manifest.specs.declared.rules.FileRules.{FileRules}
 
 and_false : (a : Bool) → (a && false) ≡ false
 and_false true = refl
@@ -36,12 +37,12 @@ none_before n j (l ∷ ls) h =
     ∙ r
 
 -- a line is a `file` line exactly if its name has a source
-file_line : (m : Image) (prefix : List ℕ) (before : List Name) (n : Name)
-    → is_file (line_behind m prefix before n).word ≡ has_source before n
-file_line m prefix before n = by n.node (first_name (ino_of n.node) before)
+file_line : (m : Image) (rules : FileRules) (before : List Name) (n : Name)
+    → is_file (line_behind m rules before n).word ≡ has_source before n
+file_line m rules before n = by n.node (first_name (ino_of n.node) before)
   where
     by : (x : Node) (o : Option Name)
-        → is_file (line_by m prefix (record { path = n.path; last = n.last; node = x })
+        → is_file (line_by m rules (record { path = n.path; last = n.last; node = x })
         (cond (is_directory x) None o)).word ≡ (is_regular x && is_none o)
     by (node a (directory es)) o = refl
     by (node a (regular ps)) None = refl
@@ -58,16 +59,16 @@ file_line m prefix before n = by n.node (first_name (ino_of n.node) before)
     by (node a fifo) (Some v) = refl
 
 -- as many sources are before a name's line as names before it have one
-pub as_many_sources : (m : Image) (prefix : List ℕ) (pre b rest : List Name) (j k : ℕ) → k ≡ j + length b
-    → sources_before k (numbered_from j (lines_behind m prefix pre (b ++ rest))) ≡ length (sources_behind m pre b)
-as_many_sources m prefix pre [] rest j k e = none_before k j (lines_behind m prefix pre rest) (omega (arith, e))
-as_many_sources m prefix pre (n ∷ b) rest j k e =
-    let more : ℕ = sources_before k (numbered_from (j + 1) (lines_behind m prefix (pre ++ n ∷ []) (b ++ rest))) in
-    let r = as_many_sources m prefix (pre ++ n ∷ []) b rest (j + 1) k (omega (arith, e)) in
-    ap (λ (t : Bool). cond (is_file (line_behind m prefix pre n).word && t) (more + 1) more)
+pub as_many_sources : (m : Image) (rules : FileRules) (pre b rest : List Name) (j k : ℕ) → k ≡ j + length b
+    → sources_before k (numbered_from j (lines_behind m rules pre (b ++ rest))) ≡ length (sources_behind m pre b)
+as_many_sources m rules pre [] rest j k e = none_before k j (lines_behind m rules pre rest) (omega (arith, e))
+as_many_sources m rules pre (n ∷ b) rest j k e =
+    let more : ℕ = sources_before k (numbered_from (j + 1) (lines_behind m rules (pre ++ n ∷ []) (b ++ rest))) in
+    let r = as_many_sources m rules (pre ++ n ∷ []) b rest (j + 1) k (omega (arith, e)) in
+    ap (λ (t : Bool). cond (is_file (line_behind m rules pre n).word && t) (more + 1) more)
     (lt-ltb j k (omega (arith, e)))
     ∙ ap (λ (t : Bool). cond t (more + 1) more)
-    (and_true (is_file (line_behind m prefix pre n).word) ∙ file_line m prefix pre n)
+    (and_true (is_file (line_behind m rules pre n).word) ∙ file_line m rules pre n)
     ∙ by (has_source pre n) more (sources_behind m (pre ++ n ∷ []) b) r
   where
     by : (t : Bool) (k : ℕ) (cs : List (List ℕ)) → k ≡ length cs
@@ -98,13 +99,13 @@ source_holds m b n a h =
 
 -- What the lines name as their sources.
 
-file_text : (m : Image) (prefix : List ℕ) (before : List Name) (n : Name) → has_source before n ≡ true
-    → (line_behind m prefix before n).text ≡ prefix ++ n.path
-file_text m prefix before n h = by n.node (first_name (ino_of n.node) before) h
+file_text : (m : Image) (rules : FileRules) (before : List Name) (n : Name) → has_source before n ≡ true
+    → (line_behind m rules before n).text ≡ rules.directory.now ++ n.path
+file_text m rules before n h = by n.node (first_name (ino_of n.node) before) h
   where
     by : (x : Node) (o : Option Name) → (is_regular x && is_none o) ≡ true
-        → (line_by m prefix (record { path = n.path; last = n.last; node = x }) (cond (is_directory x) None o)).text
-        ≡ prefix ++ n.path
+        → (line_by m rules (record { path = n.path; last = n.last; node = x }) (cond (is_directory x) None o)).text
+        ≡ rules.directory.now ++ n.path
     by (node a (directory es)) o h = absurd (cc)
     by (node a (regular ps)) None h = refl
     by (node a (regular ps)) (Some v) h = absurd (cc)
@@ -115,30 +116,30 @@ file_text m prefix before n h = by n.node (first_name (ino_of n.node) before) h
     by (node a fifo) o h = absurd (cc)
 
 -- the lines name the files of these names, in their order
-pub sources_named : (m : Image) (prefix : List ℕ) (j : ℕ) (before ns : List Name)
-    → texts_of (numbered_from j (lines_behind m prefix before ns))
-    ≡ map (λ n. prefix ++ n.path) (source_names_behind before ns)
-sources_named m prefix j before [] = refl
-sources_named m prefix j before (n ∷ ns) =
-    let l : Line = numbered j (line_behind m prefix before n) in
-    let rest : List Line = numbered_from (j + 1) (lines_behind m prefix (before ++ n ∷ []) ns) in
-    let r = sources_named m prefix (j + 1) (before ++ n ∷ []) ns in
+pub sources_named : (m : Image) (rules : FileRules) (j : ℕ) (before ns : List Name)
+    → texts_of (numbered_from j (lines_behind m rules before ns))
+    ≡ map (λ n. rules.directory.now ++ n.path) (source_names_behind before ns)
+sources_named m rules j before [] = refl
+sources_named m rules j before (n ∷ ns) =
+    let l : Line = numbered j (line_behind m rules before n) in
+    let rest : List Line = numbered_from (j + 1) (lines_behind m rules (before ++ n ∷ []) ns) in
+    let r = sources_named m rules (j + 1) (before ++ n ∷ []) ns in
     ap (λ (t : Bool). map (λ (k : Line). k.text)
     (cond t (l ∷ filter (λ k. is_file k.word) rest) (filter (λ k. is_file k.word) rest)))
-    (file_line m prefix before n)
+    (file_line m rules before n)
     ∙ by (has_source before n) refl r
   where
     by : (t : Bool) → has_source before n ≡ t
-        → texts_of (numbered_from (j + 1) (lines_behind m prefix (before ++ n ∷ []) ns))
-        ≡ map (λ n. prefix ++ n.path) (source_names_behind (before ++ n ∷ []) ns)
+        → texts_of (numbered_from (j + 1) (lines_behind m rules (before ++ n ∷ []) ns))
+        ≡ map (λ n. rules.directory.now ++ n.path) (source_names_behind (before ++ n ∷ []) ns)
         → map (λ (k : Line). k.text) (cond t
-        (numbered j (line_behind m prefix before n)
-        ∷ filter (λ k. is_file k.word) (numbered_from (j + 1) (lines_behind m prefix (before ++ n ∷ []) ns)))
-        (filter (λ k. is_file k.word) (numbered_from (j + 1) (lines_behind m prefix (before ++ n ∷ []) ns))))
-        ≡ map (λ n. prefix ++ n.path) (cond t (n ∷ []) [] ++ source_names_behind (before ++ n ∷ []) ns)
+        (numbered j (line_behind m rules before n)
+        ∷ filter (λ k. is_file k.word) (numbered_from (j + 1) (lines_behind m rules (before ++ n ∷ []) ns)))
+        (filter (λ k. is_file k.word) (numbered_from (j + 1) (lines_behind m rules (before ++ n ∷ []) ns))))
+        ≡ map (λ n. rules.directory.now ++ n.path) (cond t (n ∷ []) [] ++ source_names_behind (before ++ n ∷ []) ns)
     by true h r = ap (λ (v : List ℕ). v
-        ∷ texts_of (numbered_from (j + 1) (lines_behind m prefix (before ++ n ∷ []) ns)))
-        (file_text m prefix before n h) ∙ ap (λ (v : List (List ℕ)). (prefix ++ n.path) ∷ v) r
+        ∷ texts_of (numbered_from (j + 1) (lines_behind m rules (before ++ n ∷ []) ns)))
+        (file_text m rules before n h) ∙ ap (λ (v : List (List ℕ)). (rules.directory.now ++ n.path) ∷ v) r
     by false h r = r
 
 -- and the sources hold what these files hold
@@ -155,7 +156,7 @@ sources_held m before (n ∷ ns) = by (has_source before n) (sources_held m (bef
     by true r = ap (λ (v : List (List ℕ)). contents_of m.bytes n.node ∷ v) r
     by false r = r
 
-pub are_sources : (m : Image) (volume prefix : List ℕ) → AreSources m volume prefix
+pub are_sources : (m : Image) (volume : List ℕ) (rules : FileRules) → AreSources m volume rules
 unfolding member_lines source_names file_contents
-are_sources m volume prefix = record
-    { named = sources_named m prefix (first_number volume) [] (names m.tree); held = sources_held m [] (names m.tree) }
+are_sources m volume rules = record
+    { named = sources_named m rules (first_number volume) [] (names m.tree); held = sources_held m [] (names m.tree) }

@@ -3,7 +3,7 @@
 -- is valid, has exactly these lines and sources, and means the image's tree. (This project's own.)
 use Rattle.std.specs.Prelude.{◌≡◌, ℕ, ◌==◌, ◌<◌, ◌^◌, false, true, List, None, Ok, length, map}
 use Rattle.std.specs.List.{All, list_any}
-use Rattle.manifest.specs.Grammar.{manifest_of}
+use Rattle.manifest.specs.Grammar.{is_align, manifest_of}
 use Rattle.manifest.specs.Paths.{is_bad_name}
 use Rattle.manifest.specs.Printed.{as_read, manifest_text}
 use Rattle.manifest_tree.specs.Meant.{IsMeant}
@@ -14,6 +14,7 @@ use Rattle.image_manifest.specs.ByPaths.{HaveOnePath, has_slash}
 use Rattle.image_manifest.specs.Lines.{member_lines}
 use Rattle.image_manifest.specs.Members.{has_long_path}
 use Rattle.image_manifest.specs.Sources.{AreSources, file_contents}
+use Rattle.image_manifest.specs.declared.rules.FileRules.{FileRules}
 
 -- A name that a manifest accepts: 1 to 255 bytes, none of them zero or a slash, and neither `.` nor
 -- `..`.
@@ -58,12 +59,18 @@ pub record IsDescribable (m : Image) : Type 0 where
   pub links : HaveNoZeros m
   pub paths : has_long_path m.tree ≡ false
 
+-- Rules with which a manifest is valid: the directory is a name of bytes, and the alignment is one
+-- that a manifest accepts.
+pub record AreValid (rules : FileRules) : Type 0 where
+  pub directory : All (λ b. b < 256) rules.directory.now
+  pub align : is_align rules.align ≡ true
+
 -- The image's manifest, with this volume and its sources in this directory, is valid and has
 -- exactly the lines of its names. The sources are the image's files. If they have the files'
 -- contents, the manifest means the image's tree.
-pub record IsDescribedWhole (m : Image) (volume prefix : List ℕ) : Type 0 where
-  pub read : manifest_of (manifest_text volume (member_lines m prefix))
-      ≡ Ok (as_read volume (member_lines m prefix))
-  pub means : IsMeant m.bytes m.tree (file_contents m) (as_read volume (member_lines m prefix))
+pub record IsDescribedWhole (m : Image) (volume : List ℕ) (rules : FileRules) : Type 0 where
+  pub read : manifest_of (manifest_text volume (member_lines m rules))
+      ≡ Ok (as_read volume (member_lines m rules))
+  pub means : IsMeant m.bytes m.tree (file_contents m) (as_read volume (member_lines m rules))
       (map length (file_contents m))
-  pub sources : AreSources m volume prefix
+  pub sources : AreSources m volume rules

@@ -7,6 +7,7 @@ use Rattle.rom_tree.specs.Image.{Image, contents_of}
 use Rattle.rom_tree.specs.Names.{Name, names}
 use Rattle.rom_tree.specs.Tree.{Node, ino_of, is_regular}
 use Rattle.image_manifest.specs.Lines.{first_name, member_lines}
+use Rattle.image_manifest.specs.declared.rules.FileRules.{FileRules}
 
 -- a name behind others has a source if it is the first name of a regular file
 abbrev pub has_source : List Name → Name → Bool
@@ -35,7 +36,7 @@ source_names t = source_names_behind [] (names t)
 
 -- The sources that the lines name are the regular files of the image, in their order. Each is the
 -- path of the file's first name in the directory. Their contents are those of the files.
-pub record AreSources (m : Image) (volume prefix : List ℕ) : Type 0 where
-  pub named : sources_named (as_read volume (member_lines m prefix)).lines
-      ≡ map (λ n. prefix ++ n.path) (source_names m.tree)
+pub record AreSources (m : Image) (volume : List ℕ) (rules : FileRules) : Type 0 where
+  pub named : sources_named (as_read volume (member_lines m rules)).lines
+      ≡ map (λ n. rules.directory.now ++ n.path) (source_names m.tree)
   pub held : file_contents m ≡ map (λ n. contents_of m.bytes n.node) (source_names m.tree)

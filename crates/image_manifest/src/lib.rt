@@ -14,8 +14,10 @@ mod composing;
 pub mod laws;
 mod line;
 mod naming;
+mod rules;
 mod writing;
 
 pub use composing::path_of;
 pub use naming::{Member, PATH_MAX, Refused, members};
+pub use rules::FileRules;
 pub use writing::write_manifest;

@@ -1,37 +1,19 @@
 -- The run with which a file begins.
-use Rattle.std.proofs.Common.{◌≡◌, ℕ, Bool, zero, suc, ◌+◌, ◌<◌, ◌≤◌, true, false, List, [], ◌∷◌, length, refl, sym, ap}
-use Rattle.std.proofs.Common.{◌∙◌, arith, inl, inr, Option, Some, None, zero-add, rules}
+use Rattle.std.proofs.Common.{◌≡◌, ℕ, Bool, ◌+◌, ◌<◌, ◌≤◌, true, false, List, [], ◌∷◌, length, refl, sym, ap}
+use Rattle.std.proofs.Common.{◌∙◌, arith, Option, Some, None, zero-add, rules}
 use Rattle.std.specs.Prelude.{slice_index, IfSome}
-use Rattle.std.proofs.lemmas.Bool.Decides.{eqb_tells}
 use Rattle.rom_fields.specs.Words.{part_of}
 use Rattle.rom_tree.specs.Image.{Image, image_node}
-use Rattle.rom_tree.specs.Runs.{IsLongest}
+use Rattle.rom_tree.specs.Runs.{IsLongest, row_len}
 use Rattle.rom_tree.specs.Tree.{Node, places_of}
+use Rattle.rom_tree.proofs.Fronts.{row_len_is}
 use Rattle.rom_tree.proofs.Rows.{row_end}
 use Rattle.image_check.specs.Any.{any_view}
 use Rattle.image_check.specs.declared.any.AnyImage.{AnyImage}
 use Rattle.program_report.specs.declared.question.Question.{Question}
 use Rattle.program_report.specs.declared.finding.Found.{Found}
 use Rattle.program_report.specs.declared.finding.Verdict.{Verdict}
-use Rattle.program_report.specs.Found.{found, found_at, found_on, is_found, row_len, verdict_in}
-
-pub row_len_is : (p : ℕ) (ps : List ℕ) (n : ℕ) → ((k : ℕ) → k < n → slice_index ps k ≡ p + k) → n ≤ length ps
-    → (n < length ps → slice_index ps n ≡ p + n → ⊥) → row_len p ps ≡ n
-row_len_is p [] n row within ends = omega arith
-row_len_is p (q ∷ qs) zero row within ends =
-    elim (eqb_tells q p) [
-      | inl e ↦ absurd (ends (omega arith) (e.1 ∙ omega arith))
-      | inr d ↦ rw d.0 refl
-    ]
-row_len_is p (q ∷ qs) (suc n) row within ends =
-    let e : q ≡ p = row 0 (omega arith) ∙ omega arith in
-    let more : row_len (suc p) qs ≡ n =
-    row_len_is (suc p) qs n (λ k l. row (suc k) (omega arith) ∙ omega arith) (omega arith)
-    (λ l h. ends (omega arith) (h ∙ omega arith)) in
-    elim (eqb_tells q p) [
-      | inl t ↦ rw t.0 (ap (λ (k : ℕ). suc k) more)
-      | inr d ↦ absurd (d.1 e)
-    ]
+use Rattle.program_report.specs.Found.{found, found_at, found_on, is_found, verdict_in}
 
 kind_same : (a : AnyImage) (q : Question) (start len : ℕ) (k : Bool) (front b : List ℕ) {y : Bool}
     → k ≡ is_found q front → front ≡ part_of b start len → b ≡ (any_view a).bytes → k ≡ y

@@ -2,10 +2,11 @@
 -- (This project's own. The pages are those of `program_pages.specs.Counted`. Linux 6.1: with an MMU
 -- fs/cramfs/inode.c, `cramfs_physmem_mmap`, and fs/romfs/super.c, which has no mmap of its own;
 -- without one `cramfs_physmem_get_unmapped_area` and fs/romfs/mmap-nommu.c.)
-use Rattle.std.specs.Prelude.{ℕ, suc, ◌+◌, ◌/◌, ◌%◌, ◌^◌, ◌<◌, ◌==◌, ◌&&◌, ◌||◌, Bool, true, false}
+use Rattle.std.specs.Prelude.{ℕ, ◌+◌, ◌/◌, ◌%◌, ◌^◌, ◌<◌, ◌==◌, ◌&&◌, ◌||◌, Bool, true, false}
 use Rattle.std.specs.Prelude.{if◌then◌else◌, List, [], ◌∷◌, length, Option, Some, None}
 use Rattle.std.specs.Prelude.{Result, Ok, Err}
 use Rattle.rom_fields.specs.Words.{part_of}
+use Rattle.rom_tree.specs.Runs.{row_len}
 use Rattle.rom_tree.specs.Tree.{Node, is_regular, places_of}
 use Rattle.image_check.specs.declared.any.AnyImage.{AnyImage}
 use Rattle.image_check.specs.declared.any.AnyImage.TheVariants as any
@@ -62,11 +63,6 @@ judged romfs q start (Err no.BadTable) = Not Table 0
 
 abbrev pub page_count : ℕ → ℕ
 page_count size = (size + 4095) / 4096
-
--- how many offsets at the front follow one another, from p on
-abbrev pub row_len : ℕ → List ℕ → ℕ
-row_len p [] = 0
-row_len p (q ∷ qs) = if q == p then suc (row_len (suc p) qs) else 0
 
 abbrev pub found : ℕ → ℕ → Verdict → Found
 found start size v = record { start = start; size = size; verdict = v }

@@ -11,3 +11,4 @@ pub mod Longest
 pub mod Answered
 pub mod ByKind
 pub mod Numbers
+pub mod Fronts

@@ -33,5 +33,5 @@ pub use image::{
 pub use line::put_stat;
 pub use listing::list;
 pub use rom_faults::CheckError;
-pub use runs::{lesser, longest_run};
+pub use runs::{front_bytes, lesser, longest_run};
 pub use types::{Cursor, Entry, Kind, Limits, ListError, NoRoom, NodeId, Piece, Report, Run, Stat};

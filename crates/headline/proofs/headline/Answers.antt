@@ -39,5 +39,8 @@ returns-clause-in_place c = λ o text contents bytes m t f b e h held. (
   c.built_is_mapped_whole.ensures o text contents bytes m t f b e h held,
 )
 
+pub returns-clause-in_romfs : goal.returns-clause-in_romfs
+returns-clause-in_romfs c = c.romfs_is_mapped.ensures
+
 pub returns-clause-sealed : goal.returns-clause-sealed
 returns-clause-sealed c = c.built_is_accepted.ensures.sealed

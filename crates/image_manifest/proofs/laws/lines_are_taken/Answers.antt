@@ -3,4 +3,4 @@ use Rattle.image_manifest.proofs.Taken.{are_taken}
 use Rattle.image_manifest.proofs.laws.lines_are_taken.Goals as goal
 
 pub returns : goal.returns
-returns c = λ m volume prefix h f. are_taken m prefix (first_number volume) h f
+returns c = λ m volume rules h f. are_taken m rules (first_number volume) h f

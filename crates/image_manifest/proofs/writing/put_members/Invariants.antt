@@ -8,4 +8,4 @@ use Rattle.image_manifest.proofs.writing.put_members.Given as goal
 abbrev pub invariant-loop-index : goal.invariant-loop-index
 invariant-loop-index g l =
     Puts (sink (g.W.ByteWrite.output l.fn.w) l.fn.failed) (sink (g.W.ByteWrite.output l.w) l.failed)
-    (lines_text (take l.index (member_lines (g.T.Viewed.image l.image) l.prefix)))
+    (lines_text (take l.index (member_lines (g.T.Viewed.image l.image) l.rules)))

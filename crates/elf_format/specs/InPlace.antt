@@ -1,5 +1,5 @@
--- Files that Linux can execute in place, by their bytes. (ELF: `elf_format.specs.Mapped`. The flat
--- format: Linux include/linux/flat.h, `struct flat_hdr`.)
+-- Files that Linux can execute in place, by their bytes. (The flat format: Linux
+-- include/linux/flat.h, `struct flat_hdr`.)
 use Rattle.std.specs.Prelude.{ℕ, ◌==◌, ◌&&◌, ◌||◌, nat_lt, not, Bool, List, length, slice_index}
 use Rattle.elf_format.specs.Mapped.{has_fixed}
 

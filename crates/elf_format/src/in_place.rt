@@ -1,8 +1,8 @@
 //! Programs and libraries that Linux can execute in place.
 ghost use Rattle.std.specs.Prelude.{◌≡◌};
-ghost use Rattle.build_commands.specs.Elf.{is_flat, needs_pages};
+ghost use Rattle.elf_format.specs.InPlace.{is_flat, needs_pages};
 
-use elf_format::has_fixed;
+use crate::mapped::has_fixed;
 
 /// The most bytes at the front of a file that are read to see whether it is such a program.
 pub const HEAD_LEN: u64 = 1 << 24;
