@@ -111,6 +111,13 @@ def dumps(binary, path, data, chance):
         verify(binary, path, before + bytes(changed) + after, len(before), -1 - at)
         verify(binary, path, before + data[:at], len(before), -1 - at)
     verify(binary, path, before, len(before) + 1 + chance.randrange(5), -1)
+    front = b"\x00" * 40
+    place = path + ".dump"
+    with open(place, "wb") as it:
+        it.write(front + data + after)
+    told = ran(binary, "--explain", "verify", path, place).stderr.decode()
+    if ("the image begins at byte 40: --offset 40\n" in told) != (len(data) >= 64):
+        raise Wrong("verify of a dump with 40 bytes before: %r" % told)
 
 
 def of_image(binary, path, chance):

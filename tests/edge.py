@@ -13,6 +13,7 @@ import contextlib
 import itertools
 import os
 import re
+import resource
 import shutil
 import stat
 import subprocess
@@ -468,6 +469,31 @@ def device_without_end(binary):
         line = b"fault 3 Magic at 0 in 0\n" if len(words) > 1 else b"fault 3 Magic at 0\n"
         if answer(done) != (line, b"", 1) or time.monotonic() - begun > 5:
             yield "%s: %r" % (words, answer(done))
+    for name in ("/dev/zero", "-"):
+        with open("/dev/zero", "rb") as zeros:
+            begun = time.monotonic()
+            done = run(binary, "build", "romfs", name, "out", stdin=zeros)
+        if answer(done) != (b"", b"file %s\n" % name.encode(), 3) or time.monotonic() - begun > 5 or os.path.exists("out"):
+            yield "%s: %r" % (name, answer(done))
+
+
+def little_stack(binary):
+    """Each command needs a stack of at most 128 KiB."""
+    os.mkdir("tree")
+    put("tree/a", b"hello")
+    os.symlink("a", "tree/l")
+    hello()
+    put("image", wanted(binary))
+    little = {"env": {}, "preexec_fn": lambda: resource.setrlimit(resource.RLIMIT_STACK, (128 << 10, 128 << 10))}
+    for line in (
+        "check image", "list image", "info image", "map --all image", "map --svg image", "which image 0x80", "diff image image",
+        "digest image", "verify image image", "cat image /a", "linux image", "xip image", "serve image", "space image image",
+        "build romfs m out", "build --strict --xip cramfs m out", "pack cramfs tree out", "scan tree", "extract image apart",
+        "scan --all --align 4K -o m2 tree",
+    ):  # fmt: skip
+        done = run(binary, *line.split(), stdin=subprocess.DEVNULL, **little)
+        if done.returncode not in (0, 1) or done.stderr and not line.startswith("pack"):
+            yield "%s: %r" % (line, answer(done))
 
 
 # signals, lines and streams
@@ -690,7 +716,7 @@ TESTS = [
     calls_of_a_replacement, kinds_that_are_not_handed_on,
     folder_that_is_not_handed_on, bits_that_a_write_clears, out_behind_forty_links,
     root_that_may_not_be_listed,
-    rewritten_while_read, changed_while_read, no_further_than_stated, image_from_a_pipe, device_without_end,
+    rewritten_while_read, changed_while_read, no_further_than_stated, image_from_a_pipe, device_without_end, little_stack,
     what_follows_the_last_line, lines_of_a_file_are_read_in_blocks,
     interrupted_calls, a_line_is_one_write, first_word_is_no_text, closed_streams, closed_streams_and_a_pipe,
     closed_input_of_a_server, entries_of_a_scan, each_call_failed,

@@ -651,6 +651,61 @@ def manifest_over_its_output(binary):
         yield "a pipe: %r" % (answer(done),)
 
 
+def equal_manifest_stays(binary):
+    """`-o` leaves a file that has the manifest already, so that make builds nothing; any other one is replaced."""
+    os.mkdir("in")
+    put("in/a", b"a")
+
+    def shown():
+        return os.stat("m").st_ino, os.stat("m").st_mtime_ns, bytes_in("m")
+
+    for change, is_replaced in (
+        (lambda: None, True),
+        (lambda: None, False),
+        (lambda: put("in/b", b"b"), True),
+        (lambda: put("m", bytes_in("m") + b"\n"), True),
+        (lambda: put("m", bytes_in("m")[:-1]), True),
+        (lambda: put("in/a", b"more"), False),
+    ):
+        change()
+        before = shown() if os.path.exists("m") else None
+        done = run(binary, "scan", "--all", "-o", "m", "in")
+        if answer(done) != (b"", b"", 0) or (shown() != before) != is_replaced or bytes_in("m") != wanted(["scan", "--all"]):
+            yield "%r to %r: %r" % (before, shown(), answer(done))
+    if sorted(os.listdir(".")) != ["in", "m"]:
+        yield "%r" % os.listdir(".")
+
+
+def rule_of_a_scan(binary):
+    """`--depfile` writes a rule of the manifest: make is to scan again if a file or a directory is newer, or was removed."""
+    os.makedirs("in/d")
+    put("in/d/b c", b"b")
+    os.symlink("nowhere", "in/link")
+    put("devices", b"nod /null 0666 0 0 c 1 3\n")
+    words = ["scan", "--all", "--devices", "devices", "--depfile", "rule", "-o", "m", "in"]
+    done = run(binary, *words)
+    names = ["in/d/b\\ c", "devices", "in", "in/d"]
+    rule = "m:" + "".join(f" \\\n  {name}" for name in names) + "\n" + "".join(f"\n{name}:\n" for name in names)
+    if answer(done) != (b"", b"", 0) or bytes_in("rule").decode() != rule or not bytes_in("m").startswith(b"dir / "):
+        yield "%r: %r" % (answer(done), bytes_in("rule"))
+    before = (bytes_in("rule"), bytes_in("m"))
+    put("in/new", b"")
+    for more, told in (
+        (["--depfile", "in/rule", "-o", "m"], (b"", b"file in/rule\n", 3)),
+        (["--depfile", "m", "-o", "m"], (b"", b"file m\n", 3)),
+        (["--depfile", "in/new", "-o", "m"], (b"", b"file in/new\n", 3)),
+        (["--depfile", "rule", "-o", "in/m"], (b"", b"file in/m\n", 3)),
+        (["--depfile", "rule"], (b"", b"usage\n", 2)),
+        (["--depfile", "rule", "-o", "x y "], (b"", b"file rule\n", 3)),
+    ):
+        done = run(binary, "scan", "--all", *more, "in")
+        if answer(done) != told or (bytes_in("rule"), bytes_in("m")) != before or bytes_in("in/new"):
+            yield "%r: %r" % (more, answer(done))
+    done = run(binary, "scan", "--depfile", "rule", "in")
+    if answer(done) != (b"", b"usage\n", 2) or sorted(os.listdir(".")) != ["devices", "in", "m", "rule"]:
+        yield "%r, %r" % (answer(done), os.listdir("."))
+
+
 @needs_root
 def on_one_file_system(binary):
     """`--one-file-system` lists a directory that another file system is mounted on, and does not look into it."""
@@ -742,7 +797,8 @@ TESTS = [
     readers_that_leave, output_into_the_folder, changed_between_calls, moved_between_folders, entry_that_vanishes,
     odd_folders, what_is_no_folder, folders_that_are_forbidden, every_byte, longest_names, deep_from_inside,
     many_entries, greatest_numbers, folder_within_itself, files_of_one_number,
-    manifest_over_its_output, on_one_file_system, folders_that_rest, one_moment, pipe_that_takes_a_name,
+    manifest_over_its_output, equal_manifest_stays, rule_of_a_scan, on_one_file_system, folders_that_rest, one_moment,
+    pipe_that_takes_a_name,
 ]  # fmt: skip
 
 if __name__ == "__main__":

@@ -506,6 +506,31 @@ def without_syncs(binary):
         yield "%r, and without: %r" % (kept[0], kept[1])
 
 
+def aligned_again(binary):
+    """`--align N` gives programs the alignment N, and no other file. A build from that executes them in place."""
+    programs = {"bin": bytes_in(sys.executable)[: 1 << 20], "flat": b"bFLT" + bytes(60)}
+    others = {"script": b"#!/bin/sh\n", "short": b"\x7fELF", "none": b""}
+    sources = sorted([*programs.items(), *others.items()])
+    lines = [f"file /{name} 0755 0 0 4 {name}" for name, _ in sources]
+    build_image(binary, lines, "cramfs", sources)
+    for words, align in (([], 4), (["--align", "4K"], 4096), (["--align=64"], 64), (["--align", "65536"], 65536)):
+        remove("out")
+        done = run(binary, "extract", *words, "image", "out")
+        wanted = [f"file /{name} 0755 0 0 {align if name in programs else 4} out/{name}" for name, _ in sources]
+        if done.returncode or done.stdout.decode().splitlines()[1:] != wanted:
+            yield "%r: %s" % (words, shortly(done))
+        put("again", done.stdout)
+        built = run(binary, "build", "cramfs", "again", "second")
+        rows = [line.split() for line in run(binary, "map", "second").stdout.decode().splitlines()]
+        places = [int(row[0], 16) for row in rows if row[3][1:] in programs]
+        if built.returncode or len(places) != len(programs) or any(place % align for place in places):
+            yield "%r: %r" % (words, places)
+    for word in ("3", "5K", "128K", "x=4096", ""):
+        done = run(binary, "extract", "--align", word, "image", "refused")
+        if (done.returncode, done.stdout, done.stderr) != (2, b"", b"usage\n") or os.path.exists("refused"):
+            yield "%r: %s" % (word, shortly(done))
+
+
 def lay(there):
     """Makes the directory, or not."""
     if there:
@@ -698,7 +723,7 @@ TESTS = [
     folders_that_are_there, links_that_lead_elsewhere, images_that_are_refused, names_that_no_file_has,
     images_that_no_manifest_tells, without_rights, owners, output_that_is_not_taken, calls_in_order, without_syncs, each_call_failed,
     memory_refused, many_files, of_cases, links_refused, further_names_are_told, modes_under_a_mask, interrupted,
-    failure_is_told, disks_that_fail_at_close, memory_of_names, many_times_the_image,
+    failure_is_told, disks_that_fail_at_close, aligned_again, memory_of_names, many_times_the_image,
 ]  # fmt: skip
 
 

@@ -26,6 +26,12 @@ RULES = """image:
 \t@echo packed >>log
 -include rule
 """
+# the same from within the directory
+RULES_INSIDE = """../image:
+\t"{program}" pack --quiet --depfile ../rule cramfs . ../image
+\t@echo packed >>../log
+-include ../rule
+"""
 
 
 def options(chance):
@@ -119,14 +125,20 @@ def refused(tester):
 
 
 def rebuilds(tester):
-    """make packs once more exactly if a file was added, changed or removed."""
+    """make packs once more exactly if a file was added, changed or removed, of a directory by its name and by a dot."""
     if not shutil.which("make"):
         tester.counts.skips("make: it is not there")
         return
-    room = f"{tester.room}/make"
+    rebuilds_in(tester, "make", RULES, "")
+    rebuilds_in(tester, "make-inside", RULES_INSIDE, "/tree")
+
+
+def rebuilds_in(tester, place, rules, inside):
+    """Changes the directory `tree` of a room, and runs make by these rules in the room or in a directory of it."""
+    room = f"{tester.room}/{place}"
     os.makedirs(f"{room}/tree/sub")
     put(f"{room}/tree/sub/a", b"a", 0o644)
-    put(f"{room}/Makefile", RULES.format(program=tester.program).encode())
+    put(f"{room}/rules", rules.format(program=tester.program).encode())
     time = 10**9
     count = 0
     for name, change, is_packed in (
@@ -140,10 +152,10 @@ def rebuilds(tester):
         if os.path.exists(f"{room}/image"):
             os.utime(f"{room}/image", (time + 1, time + 1))
         change()
-        ran = subprocess.run(["make", "-s"], cwd=room, capture_output=True, text=True, timeout=SECONDS)
+        ran = subprocess.run(["make", "-s", "-f", f"{room}/rules"], cwd=room + inside, capture_output=True, text=True, timeout=SECONDS)
         count += is_packed
         log = bytes_in(f"{room}/log").count(b"packed")
-        tester.is_same(f"make: {name}", (ran.returncode, ran.stderr, log), (0, "", count))
+        tester.is_same(f"make: {name} {inside}", (ran.returncode, ran.stderr, log), (0, "", count))
 
 
 def faked(tester):

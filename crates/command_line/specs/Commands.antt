@@ -112,10 +112,11 @@ other_shapes =
     ∷ option_rule (codes "for") ∷ repeated_rule (codes "align") ∷ option_rule (codes "owner")
     ∷ flag_rule (codes "all-root") ∷ repeated_rule (codes "exclude")
     ∷ option_rule (codes "volume") ∷ option_rule (codes "devices")
-    ∷ lettered_rule 111 (codes "output") ∷ flag_rule (codes "one-file-system")
-    ∷ flag_rule (codes "strict") ∷ [])
+    ∷ lettered_rule 111 (codes "output") ∷ option_rule (codes "depfile")
+    ∷ flag_rule (codes "one-file-system") ∷ flag_rule (codes "strict") ∷ [])
     ∷ sub (codes "extract") (value_rule (codes "image") ∷ value_rule (codes "folder")
-    ∷ flag_rule (codes "owners") ∷ flag_rule (codes "no-sync") ∷ [])
+    ∷ option_rule (codes "align") ∷ flag_rule (codes "owners") ∷ flag_rule (codes "no-sync")
+    ∷ [])
     ∷ sub (codes "version") ([])
     ∷ []
 

@@ -91,3 +91,8 @@ IsOptional P None None = Unit {0}
 IsOptional P None (Some x) = ⊥
 IsOptional P (Some word) None = ⊥
 IsOptional P (Some word) (Some x) = P word x
+
+-- the alignment that an option names, or 4 if it is not given
+abbrev pub IsAlignOf : Option (List ℕ) → ℕ → Type 0
+IsAlignOf None n = n ≡ 4
+IsAlignOf (Some word) n = align_named word ≡ Some n

@@ -3,7 +3,7 @@ ghost use Rattle.std.specs.Prelude.{◌≡◌, ◌≢◌, IfNone, IfOk, IfSome, 
 ghost use Rattle.clap.specs.Words.{all_of, first_of, found_of, rows_of};
 ghost use Rattle.command_line.specs.Numbers.{AreAddresses, AreAligns, IsAddress, IsBaseOf};
 ghost use Rattle.formats.specs.Format.{name_of};
-ghost use Rattle.command_line.specs.Numbers.{IsOptional, IsSize, NotesAlign};
+ghost use Rattle.command_line.specs.Numbers.{IsAlignOf, IsOptional, IsSize, NotesAlign};
 ghost use Rattle.command_line.specs.Words.{ArePlaces, AreTexts, HasNoValueForAll, IsAskedBy};
 ghost use Rattle.command_line.specs.Words.{IsDirectory, IsFlag, IsForm, IsOffsetOf, IsOwnerOf};
 ghost use Rattle.command_line.specs.Words.{IsPackedBuild, IsPackedScan, IsPlainScan};
@@ -363,6 +363,10 @@ fn scan_all_of<'a>(alloc: Global, values: &ArgMatches<'a>) -> Result<ScanAll<'a>
     if strict && format.is_none() {
         return Err(Wrong::StrictWithoutFormat.into());
     }
+    let (output, depfile) = (value_of(values, "output"), value_of(values, "depfile"));
+    if depfile.is_some() && output.is_none() {
+        return Err(Wrong::DepfileWithoutOutput.into());
+    }
     let aligns = aligns_of(alloc, values)?;
     let owner = wished_owner(values)?;
     Ok(ScanAll {
@@ -374,7 +378,8 @@ fn scan_all_of<'a>(alloc: Global, values: &ArgMatches<'a>) -> Result<ScanAll<'a>
         excludes,
         volume: value_of(values, "volume"),
         devices: value_of(values, "devices"),
-        output: value_of(values, "output"),
+        output,
+        depfile,
         one_file_system: is_given(values, "one-file-system"),
         strict,
     })
@@ -446,6 +451,7 @@ fn packed_scan<'a>(
         volume: value_of(values, "volume"),
         devices: value_of(values, "devices"),
         output: value_of(values, "manifest"),
+        depfile: None,
         one_file_system: is_given(values, "one-file-system"),
         strict: is_given(values, "strict"),
     })
@@ -485,6 +491,8 @@ fn value_with_all(values: &ArgMatches<'_>) -> Option<&'static str>
         Some("devices")
     } else if value_of(values, "output").is_some() {
         Some("output")
+    } else if value_of(values, "depfile").is_some() {
+        Some("depfile")
     } else {
         None
     }
@@ -532,17 +540,32 @@ fn either_scan<'a>(alloc: Global, values: &ArgMatches<'a>) -> Result<Request<'a>
     }
 }
 
+/// Returns the alignment that is asked for, or the usual one if none is given.
+fn align_of<'a>(values: &ArgMatches<'a>) -> Result<u32, WordsError<'a>>
+    ensures { IfOk result (IsAlignOf (first_of (codes "align") (rows_of (found_of values.now)))) }
+{
+    let Some(word) = value_of(values, "align") else {
+        return Ok(USUAL_ALIGN);
+    };
+    match align_named(word.as_bytes()) {
+        Some(align) => Ok(align),
+        None => Err(Wrong::Align(word).into()),
+    }
+}
+
 /// Returns the image that is to be taken apart, and the directory.
 fn extract_of<'a>(values: &ArgMatches<'a>) -> Result<Extract<'a>, WordsError<'a>>
     ensures { IfOk result (λ x. IsAskedBy (rows_of (found_of values.now)) (request.Extract x)) }
 {
     let image = wanted(values, "image")?;
     let directory = wanted(values, "folder")?;
+    let align = align_of(values)?;
     let owners = is_given(values, "owners");
     let no_sync = is_given(values, "no-sync");
     Ok(Extract {
         image,
         directory,
+        align,
         owners,
         no_sync,
     })

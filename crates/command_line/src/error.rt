@@ -34,6 +34,8 @@ pub enum Wrong<'a> {
     NoDirectory,
     /// A strict scan has no format.
     StrictWithoutFormat,
+    /// A rule for make is asked for, and no file for the manifest.
+    DepfileWithoutOutput,
     /// Only one name follows the format of a packed image.
     NoOut,
 }
@@ -89,6 +91,7 @@ impl Display for Wrong<'_> {
             Wrong::Owners => write!(f, "'--owner' and '--all-root' do not go together"),
             Wrong::NoDirectory => write!(f, "DIR is empty; '.' is the current directory"),
             Wrong::StrictWithoutFormat => write!(f, "'--strict' goes with '--for' only"),
+            Wrong::DepfileWithoutOutput => write!(f, "'--depfile' goes with '--output' only"),
             Wrong::NoOut => write!(f, "OUT is missing: pack FORMAT DIR.. OUT"),
         }
     }

@@ -177,6 +177,8 @@ pub struct ScanAll<'a> {
     pub devices: Option<&'a str>,
     /// The file for the manifest, instead of standard output.
     pub output: Option<&'a str>,
+    /// The file for a rule for make, if one is asked for.
+    pub depfile: Option<&'a str>,
     /// Whether directories on which other file systems are mounted are not scanned.
     pub one_file_system: bool,
     /// Whether the scan is refused if attributes have to be changed to fit the format.
@@ -213,6 +215,8 @@ pub struct Owner {
 pub struct Extract<'a> {
     pub image: &'a str,
     pub directory: &'a str,
+    /// The alignment of programs and libraries in the manifest.
+    pub align: u32,
     /// Whether the files get the owners and all bits of the modes that the image has.
     pub owners: bool,
     /// Whether the program does not wait until the disk has the files.

@@ -234,6 +234,13 @@ const DIRECTORY: Word<'static> = Word {
     help: "The directory from which the names of sources start",
 };
 
+const DEPFILE_SCANNED: Word<'static> = Word {
+    kind: Kind::Option,
+    name: "depfile",
+    shown: "FILE",
+    help: "With --all and -o: writes to FILE a rule for make: the files and directories that were scanned",
+};
+
 const DEPFILE: Word<'static> = Word {
     kind: Kind::Option,
     name: "depfile",
@@ -416,6 +423,13 @@ const NO_SYNC: Word<'static> = Word {
     help: "Does not wait until the disk has the files, which is faster",
 };
 
+const ALIGN_AGAIN: Word<'static> = Word {
+    kind: Kind::Option,
+    name: "align",
+    shown: "N",
+    help: "The alignment (4 to 64K) of programs and libraries in the manifest, for a build that executes them in place",
+};
+
 /// The subcommands that read one image or two. Help shows them first, and then those of the next
 /// tables. (One table of all subcommands takes the prover much longer than several.)
 pub const READING: [Subcommand<'static>; 11] = [
@@ -542,6 +556,7 @@ pub const OTHERS: [Subcommand<'static>; 3] = [
             VOLUME,
             DEVICES,
             OUTPUT,
+            DEPFILE_SCANNED,
             ONE_FILE_SYSTEM,
             STRICT_SCAN,
         ],
@@ -549,7 +564,7 @@ pub const OTHERS: [Subcommand<'static>; 3] = [
     Subcommand {
         name: "extract",
         about: "Writes the files of an image into a directory, and prints its manifest",
-        words: &[IMAGE, INTO, OWNERS, NO_SYNC],
+        words: &[IMAGE, INTO, ALIGN_AGAIN, OWNERS, NO_SYNC],
     },
     Subcommand {
         name: "version",

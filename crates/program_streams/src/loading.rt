@@ -9,7 +9,7 @@ use crate::signals::read_again;
 use std::io::{self, ErrorKind, Read};
 
 /// The most bytes that one call reads.
-const PART: usize = 64 << 10;
+const PART: usize = 32 << 10;
 
 /// Makes room for an eighth more, if none is left.
 fn make_room(bytes: &mut Vec<u8>) -> io::Result<()>

@@ -2,8 +2,8 @@
 use crate::patterns::Patterns;
 use crate::reporter::Reporter;
 use crate::stamp::Identity;
-use build_commands::elf::{HEAD_LEN, needs_pages};
 use build_commands::inventory::{FileKind, NamedFile, align_of};
+use elf_format::{HEAD_LEN, needs_pages};
 use program_streams::read_until;
 use rom_commands::{Ending, Status};
 use rom_fields::OutOfMemory;

@@ -14,7 +14,7 @@ use command_line::Extract;
 use image_check::AnyImage;
 use image_extract::{Giving, ImageTree, LENDING};
 use image_info::volume;
-use image_manifest::{Member, Refused, members, write_manifest};
+use image_manifest::{FileRules, Member, Refused, members, write_manifest};
 use program_streams::Again;
 use rom_commands::{Ending, Status};
 use rom_fields::{ByteWrite, Plain};
@@ -178,24 +178,24 @@ fn is_made(kind: Kind) -> bool {
     matches!(kind, Kind::Directory | Kind::Regular | Kind::Symlink)
 }
 
-/// Prints the manifest of an image whose files are in this directory.
+/// Prints the manifest of an image whose files are in this directory. Its programs have this
+/// alignment.
 fn print<'a>(
     reporter: &Reporter<'_>,
     tree: &ImageTree<'a, 'a, AnyImage<'a>>,
     directory: &str,
+    align: u32,
 ) -> Status {
     let Ok(out) = BufWriter::new(reporter.rt.alloc(), Again::new(io::writer(reporter.rt))) else {
         return reporter.say(Ending::Memory);
     };
     let mut out = Plain::new(out);
     let (image, members) = (tree.image, tree.members);
-    let written = write_manifest(
-        image,
-        members,
-        volume(image),
-        directory.as_bytes(),
-        &mut out,
-    );
+    let rules = FileRules {
+        directory: directory.as_bytes(),
+        align,
+    };
+    let written = write_manifest(image, members, volume(image), rules, &mut out);
     if written.is_err() || out.flush().is_err() {
         return reporter.say(Ending::WriteFault);
     }
@@ -224,7 +224,7 @@ fn take_apart<'a>(
     match extraction.run(asked.directory) {
         Ok(counts) => {
             extraction.explain(counts);
-            print(reporter, tree, directory)
+            print(reporter, tree, directory, asked.align)
         }
         Err(status) => status,
     }

@@ -5,10 +5,11 @@ use command_line::size_named;
 use image_check::{HEAD, reach_of};
 use image_load::{Found, load};
 use program_streams::read_until;
-use sentences::reasons::{IMAGE_TOO_LONG, MANIFEST_TOO_LONG, NO_MAX_SIZE};
+use sentences::reasons::{IMAGE_TOO_LONG, LINE_TOO_LONG, MANIFEST_TOO_LONG, NO_MAX_SIZE};
 use std::env::{Env, FillError};
 use std::fs::{File, Metadata, OpenFile};
-use std::os::unix::fs::FileExt;
+use std::io::Read;
+use std::os::unix::fs::{FileExt, FileTypeExt};
 use std::{fs, io, str};
 
 /// The name by which the system opens standard input.
@@ -19,6 +20,9 @@ const MAX_SIZE: &str = "ROMTOOL_MAX_SIZE";
 
 /// The most bytes of a manifest.
 const MOST_OF_MANIFEST: u64 = 1 << 30;
+
+/// More bytes than a line of a manifest can have.
+const LONGEST_LINE: u64 = 1 << 20;
 
 /// The reason why a file was not read.
 #[derive(Drop)]
@@ -137,16 +141,61 @@ pub struct Text {
     pub file: TextFile,
 }
 
+/// Returns the bytes of a regular file, at most this number.
+///
+/// # Errors
+///
+/// The operating system's error; `InvalidInput` if the file is not regular.
+pub fn beginning(rt: &HostRuntime, name: &str, most: u64) -> io::Result<Vec<u8>> {
+    if !fs::metadata(rt, name)?.is_file() {
+        return Err(io::Error::from(io::ErrorKind::InvalidInput));
+    }
+    let mut bytes = Vec::new(rt.alloc());
+    read_until(&mut File::open(rt, name)?, &mut bytes, most, most)?;
+    Ok(bytes)
+}
+
+/// Reads the text of a manifest. That of a character device is refused as soon as one of its lines
+/// is too long, since a device may never end.
+fn read_text<R: Read>(
+    reader: &mut R,
+    was: Option<&Metadata>,
+    bytes: &mut Vec<u8>,
+) -> io::Result<()> {
+    match was {
+        Some(was) if was.file_type().is_char_device() => read_lines(reader, bytes),
+        Some(was) if was.is_file() => read_until(reader, bytes, MOST_OF_MANIFEST + 1, was.len()),
+        _ => read_until(reader, bytes, MOST_OF_MANIFEST + 1, 0),
+    }
+}
+
+/// Reads lines, of which none has more bytes than the longest one.
+fn read_lines<R: Read>(reader: &mut R, bytes: &mut Vec<u8>) -> io::Result<()> {
+    for _ in 0..MOST_OF_MANIFEST / LONGEST_LINE {
+        let before = bytes.len();
+        let until = before as u64 + LONGEST_LINE;
+        read_until(reader, bytes, until, until)?;
+        if (bytes.len() as u64) < until {
+            return Ok(());
+        }
+        if !bytes.get(before..).unwrap_or(&[]).contains(&b'\n') {
+            return Err(io::Error::new(io::ErrorKind::FileTooLarge, LINE_TOO_LONG));
+        }
+    }
+    read_until(reader, bytes, MOST_OF_MANIFEST + 1, 0)
+}
+
 /// Returns the text of the manifest on standard input.
 ///
 /// # Errors
 ///
-/// The operating system's error; `FileTooLarge` if there are more than 2^30 bytes; `Changed` if
-/// standard input is a regular file that changed meanwhile.
+/// The operating system's error; `FileTooLarge` if there are more than 2^30 bytes, or more than
+/// 2^20 in a line of a device; `Changed` if standard input is a regular file that changed
+/// meanwhile.
 pub fn manifest_of_input(rt: &HostRuntime) -> Result<Text, Unread> {
     let was = fs::metadata(rt, INPUT).ok();
     let mut bytes = Vec::new(rt.alloc());
-    read_until(&mut rt.reader(), &mut bytes, MOST_OF_MANIFEST + 1, 0)?;
+    read_text(&mut rt.reader(), was.as_ref(), &mut bytes)?;
     if bytes.len() as u64 > MOST_OF_MANIFEST {
         return Err(Unread::Refused(io::Error::new(io::ErrorKind::FileTooLarge, MANIFEST_TOO_LONG)));
     }
@@ -168,8 +217,8 @@ pub fn manifest_of_input(rt: &HostRuntime) -> Result<Text, Unread> {
 ///
 /// # Errors
 ///
-/// The operating system's error; `FileTooLarge` if the file has more than 2^30 bytes; `Changed` if
-/// a regular file changed while it was read.
+/// The operating system's error; `FileTooLarge` if the file has more than 2^30 bytes, or a device
+/// more than 2^20 in a line; `Changed` if a regular file changed while it was read.
 pub fn manifest(rt: &HostRuntime, name: &str) -> Result<Text, Unread> {
     let mut file = File::open(rt, name)?;
     let was = file.metadata()?;
@@ -178,7 +227,7 @@ pub fn manifest(rt: &HostRuntime, name: &str) -> Result<Text, Unread> {
     }
     let mut bytes = Vec::new(rt.alloc());
     if was.len() <= MOST_OF_MANIFEST {
-        read_until(&mut file, &mut bytes, MOST_OF_MANIFEST + 1, was.len())?;
+        read_text(&mut file, Some(&was), &mut bytes)?;
     }
     if was.len().max(bytes.len() as u64) > MOST_OF_MANIFEST {
         return Err(Unread::Refused(io::Error::new(io::ErrorKind::FileTooLarge, MANIFEST_TOO_LONG)));

@@ -1,6 +1,7 @@
 //! The manifest of directories as they are.
 use crate::aligning::align_all;
 use crate::beside::KeepError;
+use crate::depfile::Rule;
 use crate::faked::check_faked;
 use crate::inventory::all_below;
 use crate::overlay::{OverlayError, is_directory, laid_over, sort};
@@ -10,8 +11,8 @@ use crate::reporter::Reporter;
 use crate::stamp::Identity;
 use crate::target::Target;
 use crate::unfit::Unfit;
-use crate::{devices, own_output};
-use build_commands::inventory::{NamedFile, lines, put_found};
+use crate::{depfile, devices, own_output, reading};
+use build_commands::inventory::{FileKind, NamedFile, lines, put_found};
 use command_line::{Owner, ScanAll};
 use manifest::Entry;
 use program_streams::Again;
@@ -21,9 +22,9 @@ use sentences::reasons::{
     KINDS_DIFFER, LONG_NAME, MANIFEST_NOT_TAKEN, OWN_ERROR, OWN_FILE, OWN_STREAM, PART_REPLACED,
     SCANNED,
 };
-use std::alloc::{AllocError, Global};
+use std::alloc::AllocError;
 use std::io::{self, BufWriter};
-use std::{fs, str};
+use std::{env, fs, str};
 
 /// The most bytes of a volume's name.
 const MOST_VOLUME: usize = 255;
@@ -218,11 +219,7 @@ fn write_file(
         target.abandon(reporter.rt);
         return Err(status);
     }
-    match target.keep(reporter.rt) {
-        Ok(()) => Ok(()),
-        Err(KeepError::Refused(e)) => Err(reporter.refused(name.as_bytes(), &e)),
-        Err(KeepError::Changed) => Err(reporter.changed(name.as_bytes(), &PART_REPLACED)),
-    }
+    keep_target(reporter, name, target)
 }
 
 /// Prints a manifest on standard output.
@@ -265,7 +262,108 @@ fn lines_of<'f>(
     Ok((lines, unfit))
 }
 
-/// Writes the manifest into the file that is asked for, if one is.
+/// Whether a regular file has exactly the bytes of a manifest with these lines. If it cannot be
+/// read, it is written anew.
+fn has_text(reporter: &Reporter<'_>, name: &str, volume: &[u8], lines: &[Entry<'_>]) -> bool {
+    let rt = reporter.rt;
+    let mut text = Plain::new(Vec::new(rt.alloc()));
+    if put_found(&mut text, volume, lines).is_err() {
+        return false;
+    }
+    let text = text.into_inner();
+    match reading::beginning(rt, name, text.len() as u64 + 1) {
+        Ok(found) => found == text,
+        Err(_) => false,
+    }
+}
+
+/// The names of what was scanned, as make reads them: regular files, the file of devices, and
+/// directories.
+#[derive(Drop)]
+struct Scanned {
+    files: Vec<String>,
+    directories: Vec<String>,
+}
+
+impl Scanned {
+    /// Returns the names of the files that were found.
+    fn of(
+        rt: &HostRuntime,
+        devices: Option<&str>,
+        found: &[NamedFile],
+    ) -> Result<Scanned, AllocError> {
+        let mut files = Vec::new(rt.alloc());
+        for file in found {
+            if matches!(file.kind, FileKind::Regular) && !file.place.is_empty() {
+                files.push(String::from_str(rt.alloc(), &file.place)?)?;
+            }
+        }
+        if let Some(name) = devices {
+            files.push(String::from_str(rt.alloc(), name)?)?;
+        }
+        let directories = directories_of(rt, found)?;
+        Ok(Scanned { files, directories })
+    }
+}
+
+/// Opens the file of a rule and writes it there, if one is asked for. It gets its name after the
+/// manifest has got its own.
+fn rule_of(
+    reporter: &Reporter<'_>,
+    scan: &ScanAll<'_>,
+    out: &str,
+    found: &[NamedFile],
+    image: &Target,
+) -> Result<Option<Target>, Status> {
+    let (Some(name), rt) = (scan.depfile, reporter.rt) else {
+        return Ok(None);
+    };
+    let Ok(scanned) = Scanned::of(rt, scan.devices, found) else {
+        return Err(reporter.say(Ending::Memory));
+    };
+    let mut sources = Vec::new(rt.alloc());
+    for file in &scanned.files {
+        if sources.push(file.as_str()).is_err() {
+            return Err(reporter.say(Ending::Memory));
+        }
+    }
+    let rule = Rule {
+        out,
+        manifest: None,
+        sources: &sources,
+        directories: &scanned.directories,
+    };
+    depfile::check(reporter, name, rule)?;
+    let target = target_of(reporter, name, scan.devices, found)?;
+    Ok(Some(depfile::written(reporter, name, rule, target, image)?))
+}
+
+/// Gives a target that was written its name.
+fn keep_target(reporter: &Reporter<'_>, name: &str, target: Target) -> Result<(), Status> {
+    match target.keep(reporter.rt) {
+        Ok(()) => Ok(()),
+        Err(KeepError::Refused(e)) => Err(reporter.refused(name.as_bytes(), &e)),
+        Err(KeepError::Changed) => Err(reporter.changed(name.as_bytes(), &PART_REPLACED)),
+    }
+}
+
+/// Writes a manifest into a file. A file that has it already stays untouched, so that make builds
+/// nothing again.
+fn put_manifest(
+    reporter: &Reporter<'_>,
+    name: &str,
+    volume: &[u8],
+    lines: &[Entry<'_>],
+    target: Target,
+) -> Result<(), Status> {
+    if has_text(reporter, name, volume, lines) {
+        target.abandon(reporter.rt);
+        return Ok(());
+    }
+    write_file(reporter, name, volume, lines, target)
+}
+
+/// Writes the manifest into the file that is asked for, if one is, and then the rule.
 fn keep(
     reporter: &Reporter<'_>,
     scan: &ScanAll<'_>,
@@ -277,14 +375,30 @@ fn keep(
         return Ok(());
     };
     let target = target_of(reporter, name, scan.devices, found)?;
-    write_file(reporter, name, volume, lines, target)
+    let rule = match rule_of(reporter, scan, name, found, &target) {
+        Ok(rule) => rule,
+        Err(status) => {
+            target.abandon(reporter.rt);
+            return Err(status);
+        }
+    };
+    if let Err(status) = put_manifest(reporter, name, volume, lines, target) {
+        if let Some(rule) = rule {
+            rule.abandon(reporter.rt);
+        }
+        return Err(status);
+    }
+    match (rule, scan.depfile) {
+        (Some(rule), Some(name)) => keep_target(reporter, name, rule),
+        _ => Ok(()),
+    }
 }
 
 /// Scans, and writes the manifest. Nothing is written if a file cannot be read.
 fn scan(reporter: &Reporter<'_>, scan: &ScanAll<'_>) -> Result<(), Status> {
     check_faked(reporter, &scan.directories)?;
     let volume = volume_of(reporter, scan)?;
-    let found = all_found(reporter, scan, &[scan.output])?;
+    let found = all_found(reporter, scan, &[scan.output, scan.depfile])?;
     let (lines, unfit) = lines_of(reporter, scan, &found)?;
     match scan.output {
         Some(_) => keep(reporter, scan, volume, &found, &lines)?,
@@ -309,12 +423,21 @@ pub struct ScannedText {
     pub directories: Vec<String>,
 }
 
+/// A directory's name as make reads it. A dot by itself is no name for make, so it is spelled as
+/// the path of the current directory.
+fn spelled(rt: &HostRuntime, name: &str) -> Result<String, AllocError> {
+    match env::current_dir(rt) {
+        Ok(whole) if name == "." => Ok(whole.into_string()),
+        _ => String::from_str(rt.alloc(), name),
+    }
+}
+
 /// The names of the directories among the files that were found.
-fn directories_of(alloc: Global, found: &[NamedFile]) -> Result<Vec<String>, AllocError> {
-    let mut directories = Vec::new(alloc);
+fn directories_of(rt: &HostRuntime, found: &[NamedFile]) -> Result<Vec<String>, AllocError> {
+    let mut directories = Vec::new(rt.alloc());
     for file in found {
         if is_directory(file) && !file.place.is_empty() {
-            directories.push(String::from_str(alloc, &file.place)?)?;
+            directories.push(spelled(rt, &file.place)?)?;
         }
     }
     Ok(directories)
@@ -337,7 +460,7 @@ pub fn scanned_text(
     }
     keep(reporter, scan, volume, &found, &lines)?;
     unfit.explain(reporter, scan);
-    let Ok(directories) = directories_of(reporter.rt.alloc(), &found) else {
+    let Ok(directories) = directories_of(reporter.rt, &found) else {
         return Err(reporter.say(Ending::Memory));
     };
     Ok(ScannedText {

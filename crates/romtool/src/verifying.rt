@@ -9,7 +9,8 @@ use command_line::Verify;
 use image_check::AnyImage;
 use image_digest::{compare, find_holder, pass_over};
 use inspect_commands::print_verdict;
-use program_streams::{Again, Ahead, Held};
+use memchr::memmem;
+use program_streams::{Again, Ahead, Held, read_until};
 use rom_commands::{Ending, Status};
 use rom_fields::Plain;
 use rom_tree::TreeImage;
@@ -17,6 +18,12 @@ use std::alloc::AllocError;
 use std::fs::{File, OpenFile};
 use std::io::{self, BufReader, BufWriter, Seek, SeekFrom};
 use std::str;
+
+/// The number of bytes by which the front of an image is found in a dump.
+const FRONT: usize = 64;
+
+/// The most bytes of a dump that are searched for it.
+const SEARCHED: u64 = 64 << 20;
 
 /// Compares the image in a file with a dump, and prints the result.
 pub fn run(reporter: &Reporter<'_>, asked: Verify<'_>) -> Status {
@@ -71,6 +78,16 @@ fn report(
     ending.status()
 }
 
+/// The offset in the dump at which the image begins, if its front is there.
+fn offset_in(rt: &HostRuntime, dump: &str, image: &[u8]) -> Option<usize> {
+    let front = image.get(..FRONT)?;
+    let mut file = File::open(rt, dump).ok()?;
+    let len = file.metadata().ok()?.len().min(SEARCHED);
+    let mut bytes = Vec::new(rt.alloc());
+    read_until(&mut file, &mut bytes, SEARCHED, len).ok()?;
+    memmem::find(&bytes, front)
+}
+
 /// Explains where the dump differs.
 fn explain(
     reporter: &Reporter<'_>,
@@ -100,5 +117,11 @@ fn explain(
         image, in {what}"
     )?;
     reporter.explain(asked.dump.as_bytes(), &words);
+    if at == 0
+        && let Some(begin) = offset_in(reporter.rt, asked.dump, image.bytes())
+    {
+        let words = format!(in alloc; "the image begins at byte {begin}: --offset {begin}")?;
+        reporter.explain(asked.dump.as_bytes(), &words);
+    }
     Ok(())
 }

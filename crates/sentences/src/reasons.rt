@@ -7,6 +7,9 @@ pub const NO_REGULAR_FILE: &str = "it is not a regular file";
 /// A manifest is longer than it may be.
 pub const MANIFEST_TOO_LONG: &str = "a manifest has at most 2^30 bytes";
 
+/// A manifest that does not end in what is read of it.
+pub const LINE_TOO_LONG: &str = "a line of it has more than 2^20 bytes, so it is no manifest";
+
 /// The file that is to be scanned is no directory.
 pub const NO_FOLDER: &str = "it is not a directory";
 
