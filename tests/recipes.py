@@ -3,11 +3,11 @@
 
     recipes.py [--binary PATH] [--name TEXT]
 
-With CMake (Ninja and Makefiles), make and meson, in a directory whose name has a space: an image is built; a second build runs
-no `romtool build`; after a file was added, changed or removed, or its mode was changed, exactly one does, and the image has what
-the directory has. A scan or a build that is refused leaves the image as it was. The recipes for Buildroot run with stubs of its
-macros, the class for Yocto as a function of the shell, and the commands of the workflow as they are. The last line is
-`N passed, M failed`, with `, K skipped` if a tool is missing.
+With CMake (Ninja and Makefiles), make and meson, in a directory whose name has a space: each build runs romtool once. The image
+is replaced, and what depends on it is made, exactly if a file was added, changed or removed, or its mode was changed; then
+the image has what the directory has. What is refused leaves the image as it was. Two images are built at the same time, and an
+image is installed under DESTDIR. The recipes for Buildroot run with stubs of its macros, the class for Yocto as a function of the
+shell, and the commands of the workflow as they are. The last line is `N passed, M failed`, with `, K skipped` if a tool is missing.
 """
 
 import hashlib
@@ -21,13 +21,14 @@ import sys
 import rooms
 from files import bytes_in, put, repository_text, text_of, wait_for_clock, write_below
 from harness import SECONDS, TOP, missing
-from romtool import entries, raw, run
+from romtool import FORMATS, entries, raw, run
 
 RECIPES = os.path.join(TOP, "recipes")
 sys.path.insert(0, os.path.join(TOP, "tools"))
 
 import installation  # noqa: E402
 
+ODD_NAMES = ("a:b", "a$b", "a;b", "a(b", "a*b", "a#b", "%41", "a\\b", "];[", "a\nb", "~", "-")
 # a program that notes its words, so that its runs can be counted
 NOTING = '#!/bin/sh\necho "$*" >>"%s"\nexec "%s" "$@"\n'
 CMAKE = """cmake_minimum_required(VERSION 3.15)
@@ -35,12 +36,20 @@ project(images NONE)
 find_package(romtool %s REQUIRED)
 %s
 """
-IMAGE = "romtool_image(TARGET image FORMAT cramfs OUTPUT out/image DIRECTORY root over ALIGN 4096 'text=8' ALL_ROOT\n"
+IMAGE = "romtool_image(TARGET image FORMAT cramfs OUTPUT out/image DIRECTORY root over ALIGN 4096 'text=%s' ALL_ROOT\n"
 IMAGE = (IMAGE + "EXCLUDE *.o *.tmp DEVICES devices STRICT MAX_SIZE %s)").replace("'", "")
+# what depends on the image, is installed, and notes that it was made
+USER = """
+add_custom_command(OUTPUT copy COMMAND sh -c "cp out/image copy && echo >>../copies" DEPENDS image "${CMAKE_CURRENT_BINARY_DIR}/out/image"
+    VERBATIM)
+add_custom_target(copied ALL DEPENDS copy)
+install(FILES "${CMAKE_CURRENT_BINARY_DIR}/out/image" DESTINATION firmware)
+"""
 FROM_MANIFEST = "romtool_image(TARGET image FORMAT romfs OUTPUT image.romfs MANIFEST manifest SOURCES root)"
 MAKEFILE = """include %s/make/romtool.mk
-$(call romtool_image,out/image,cramfs,root over,--all-root --align 4096 --align text=8 --exclude '*.o' --exclude '*.tmp' \
---devices devices,--strict --max-size %s)
+$(call romtool_image,out/image,cramfs,root over,--all-root --align 4096 --align text=%s --exclude '*.o' --exclude '*.tmp' \
+--devices devices --strict --max-size %s)
+copy: out/image; cp $< $@ && echo >>copies
 clean: ; rm -f $(romtool_made)
 """
 STUBS = """qstrip = $(strip $(subst ",,$(1)))
@@ -76,42 +85,51 @@ class System:
 
     def __init__(self, binary, top, image, commands):
         self.binary, self.top, self.image, self.commands = binary, os.path.abspath(top), image, commands
+        self.copy = None  # what depends on the image, and adds a line to `copies` each time that it is made
         os.makedirs(self.top + "/bin", exist_ok=True)
         put(self.top + "/bin/romtool", (NOTING % (self.top + "/runs", binary)).encode(), 0o755)
         self.environment = {**os.environ, "PATH": "%s/bin:%s" % (self.top, os.environ["PATH"]), "ROMTOOL": "romtool"}
         self.environment.pop("MAKEFLAGS", None)
 
     def build(self):
-        """Builds, and returns the status, how often `romtool build` ran, and what was said."""
+        """Builds, and returns the status, whether the image was replaced (0 or 1), and what was said."""
         put(self.top + "/runs")
         how = {"cwd": self.top, "env": self.environment, "stdin": subprocess.DEVNULL, "timeout": SECONDS}
-        said = ""
+        said, before = "", self.state()
         for words in self.commands:
             done = subprocess.run(words, stdout=subprocess.PIPE, stderr=subprocess.STDOUT, text=True, errors="replace", **how)
             said += done.stdout
             if done.returncode:
                 break
-        return done.returncode, len(re.findall(r"^(?:--explain )?build ", text_of(self.top + "/runs"), re.M)), said
+        return done.returncode, int(self.state() != before), said
+
+    def calls(self):
+        """Returns the commands of romtool that the last build ran and that make an image or a manifest."""
+        return re.findall(r"^(?:--explain )?(pack|build|scan) ", text_of(self.top + "/runs"), re.M)
 
     def state(self):
-        """The image's file and bytes."""
+        """Returns the image's file and bytes, or nothing if there is none."""
         path = os.path.join(self.top, self.image)
+        if not os.path.exists(path):
+            return None
         found = os.stat(path)
         return found.st_ino, found.st_mtime_ns, bytes_in(path)
 
+    def copies(self):
+        """Returns how often what depends on the image was made."""
+        return len(text_of(self.top + "/copies").splitlines()) if os.path.exists(self.top + "/copies") else 0
+
     def built(self, what, times=1, more=()):
-        """What is wrong if these builds have to run once, and the image has to have what the directories have."""
-        status, count, said = self.build()
-        if status or count != times:
-            yield "%s: status %d, %d builds: %s" % (what, status, count, said)
-            return
+        """What is wrong if this build and the next one have to replace the image so often, and it has to have what the directories have."""
+        for wanted in (times, 0) if times else (0,):
+            before = self.copies()
+            status, count, said = self.build()
+            if status or count != wanted or self.calls() != ["pack"]:
+                yield "%s: status %d, replaced %d times by %s: %s" % (what, status, count, self.calls(), said)
+                return
+            if self.copy and (self.copies() - before, bytes_in(os.path.join(self.top, self.copy))) != (wanted, self.state()[2]):
+                yield "%s: what depends on the image was made %d times" % (what, self.copies() - before)
         yield from self.compared(what, more)
-        if not times:
-            return
-        before = self.state()
-        status, count, said = self.build()
-        if status or count or self.state() != before:
-            yield "%s, once more: status %d, %d builds: %s" % (what, status, count, said)
 
     def compared(self, what, more=()):
         """What differs between the image and the directories."""
@@ -136,12 +154,12 @@ class System:
         """What is wrong if a build has to fail and to leave the image."""
         before = self.state()
         status, _, said = self.build()
-        if not status or self.state() != before:
+        if not status or self.state() != before or "romtool: " not in said:
             yield "%s: status %d: %s" % (what, status, said)
 
-    def follows(self, more=(), bracket="["):
-        """What is wrong while the directory is changed, step by step. `bracket` is a name that not every system reads."""
-        top, odd = self.top, "%s/root/etc/%s" % (self.top, bracket)
+    def follows(self, more=()):
+        """What is wrong while the directory is changed, step by step."""
+        top, odd = self.top, self.top + "/root/etc/["
         put(odd, b"bracket", 0o755)
         yield from self.built("a new image", more=more)
         for what, change in (
@@ -156,6 +174,8 @@ class System:
             wait_for_clock(top)
             change()
             yield from self.built(what, more=more)
+        os.utime(odd)
+        yield from self.built("another time", times=0, more=more)
         bad = os.fsencode(top) + b"/root/\xff"
         wait_for_clock(top)
         put(bad)
@@ -166,7 +186,7 @@ class System:
         yield from self.refused("a name that is too long for cramfs")
         yield from self.refused("a name that is too long for cramfs, once more")
         os.remove(top + "/root/" + "n" * 253)
-        yield from self.built("without the long name", more=more)
+        yield from self.built("without the long name", times=0, more=more)
 
 
 def tree(top):
@@ -184,7 +204,7 @@ CONSOLE = {("c", 0o600, 0, 0, b"/dev/console")}
 def cmake(binary, top, generator, text, image):
     """A project of CMake that is configured."""
     put(top + "/CMakeLists.txt", (CMAKE % (installation.version(), text)).encode())
-    system = System(binary, top, image, [["cmake", "--build", "build it"]])
+    system = System(binary, top, image, [["cmake", "--build", "build it", "--parallel", "4"]])
     words = ["cmake", "-G", generator, "-S", ".", "-B", "build it", "-Dromtool_DIR=%s/cmake" % RECIPES]
     done = subprocess.run(words, cwd=top, env=system.environment, capture_output=True, text=True, timeout=SECONDS)
     return system, done.stdout + done.stderr if done.returncode else None
@@ -202,26 +222,29 @@ def by_cmake(generator, binary):
     """CMake by one generator."""
     top = "with space"
     tree(top)
-    system, wrong = cmake(binary, top, generator, IMAGE % "1M", "build it/out/image")
+    system, wrong = cmake(binary, top, generator, (IMAGE + USER) % ("8", "1M"), "build it/out/image")
     if wrong:
         yield wrong
         return
+    system.copy = "build it/copy"
     yield from system.follows(CONSOLE)
     yield from excluded(system)
-    put(top + "/CMakeLists.txt", (CMAKE % (installation.version(), IMAGE % "2M")).encode())
+    yield from installed(system, ["cmake", "--install", "build it", "--prefix", "/usr"], "/usr/firmware/image")
+    put(top + "/CMakeLists.txt", (CMAKE % (installation.version(), (IMAGE + USER) % ("8K", "1M"))).encode())
     yield from system.built("another option", more=CONSOLE)
-    names = ("a:b", "a$b", "a;b", "a(b", "a*b", "a#b", "%41", "a\\b", "];[")
-    for name in names:
+    for name in ODD_NAMES:
         put("%s/root/%s" % (top, name), b"odd", 0o644)
     yield from system.built("odd names", more=CONSOLE)
-    for name in names if generator == "Ninja" else ():
-        wait_for_clock(top)
-        put("%s/root/%s" % (top, name), b"changed")
-        yield from system.built(name, more=CONSOLE)
-    put(top + "/CMakeLists.txt", (CMAKE % (installation.version(), IMAGE % "1K")).encode())
-    status, _, said = system.build()
-    if not status:
-        yield "a limit: %s" % said
+    put(top + "/CMakeLists.txt", (CMAKE % (installation.version(), (IMAGE + USER) % ("8K", "1K"))).encode())
+    yield from system.refused("a limit")
+
+
+def installed(system, words, path):
+    """What is wrong if these words have to install the image under DESTDIR."""
+    place = {**system.environment, "DESTDIR": system.top + "/dest dir"}
+    done = subprocess.run(words, cwd=system.top, env=place, capture_output=True, text=True, timeout=SECONDS)
+    if done.returncode or bytes_in(place["DESTDIR"] + path) != system.state()[2]:
+        yield "%s: status %d: %s" % (words, done.returncode, done.stdout + done.stderr)
 
 
 def of_manifest(system, manifest):
@@ -238,13 +261,71 @@ def of_manifest(system, manifest):
         change()
         for times in (1, 0):
             status, count, said = system.build()
-            if status or count != times:
-                yield "%s: status %d, %d builds: %s" % (what, status, count, said)
+            if status or count != times or system.calls() != ["build"]:
+                yield "%s: status %d, replaced %d times by %s: %s" % (what, status, count, system.calls(), said)
                 return
         if run(system.binary, "cat", os.path.join(system.top, system.image), path_in_image).stdout != text:
             yield "%s: other bytes" % what
     os.remove(system.top + "/root/a b")
     yield from system.refused("a source that is missing")
+
+
+def at_once(binary, top, words):
+    """What is wrong if these words have to build an image in each format of one directory, and nothing the second time."""
+    systems = [System(binary, top, "%s/%s" % (words[-1], it), []) for it in FORMATS]
+    for count in (1, 0):
+        before = [it.state() for it in systems]
+        done = subprocess.run(words[:-1], cwd=top, env=systems[0].environment, capture_output=True, text=True, timeout=SECONDS)
+        replaced = sum(it.state() != old for it, old in zip(systems, before))
+        if done.returncode or replaced != count * len(FORMATS):
+            yield "status %d, %d images replaced: %s" % (done.returncode, replaced, done.stdout + done.stderr)
+            return
+    for it, form in zip(systems, FORMATS):
+        said = run(binary, "check", os.path.join(top, it.image)).stdout
+        if not said.startswith(b"ok %s " % form.encode()):
+            yield "%s: %r" % (form, said)
+        yield from it.compared(form)
+
+
+def one_tree(top):
+    """Writes a small tree that is reached by a name with a space, too."""
+    tree(top)
+    shutil.rmtree(top + "/over")
+    os.symlink("root", top + "/the root")
+
+
+def cmake_at_once(generator, binary):
+    """Several images of one directory by CMake."""
+    top = "with space"
+    one_tree(top)
+    text = "".join('romtool_image(TARGET i-%s FORMAT %s OUTPUT %s DIRECTORY "the root" ALL_ROOT)\n' % (it, it, it) for it in FORMATS)
+    _, wrong = cmake(binary, top, generator, text, "build it/romfs")
+    yield from [wrong] if wrong else at_once(binary, top, ["cmake", "--build", "build it", "--parallel", "4", "build it"])
+
+
+@needs_tools("cmake", "ninja")
+def cmake_ninja_at_once(binary):
+    """Several images at once by CMake with Ninja."""
+    yield from cmake_at_once("Ninja", binary)
+
+
+@needs_tools("cmake", "make")
+def cmake_makefiles_at_once(binary):
+    """Several images at once by CMake with Makefiles."""
+    yield from cmake_at_once("Unix Makefiles", binary)
+
+
+@needs_tools("make")
+def make_at_once(binary):
+    """Several images at once by GNU make."""
+    top = "with space"
+    one_tree(top)
+    lines = ["include %s/make/romtool.mk" % RECIPES, "all: %s" % " ".join("out/" + it for it in FORMATS)]
+    put(
+        top + "/Makefile",
+        "\n".join([*lines, *("$(call romtool_image,out/%s,%s,'the root',--all-root)" % (it, it) for it in FORMATS), ""]).encode(),
+    )
+    yield from at_once(binary, top, ["make", "-j4", "all", "out"])
 
 
 @needs_tools("cmake", "ninja")
@@ -279,14 +360,20 @@ def cmake_makefiles_manifest(binary):
     yield from manifest_of_cmake("Unix Makefiles", binary)
 
 
+def make_prefix(binary):
+    """Installs the recipes under `prefix`, and a program that runs the one that is tested."""
+    os.makedirs("prefix/bin")
+    os.makedirs("prefix/share/romtool/cmake")
+    put("prefix/bin/romtool", ('#!/bin/sh\nexec "%s" "$@"\n' % binary).encode(), 0o755)
+    for name, path in installation.RECIPES.items():
+        shutil.copy(os.path.join(RECIPES, name), "prefix/share/romtool/" + path)
+
+
 @needs_tools("cmake", "make")
 def cmake_package(binary):
     """The package finds the program beside it, has its version, refuses wrong words, and comes with that of the library for C."""
-    os.makedirs("prefix/bin")
-    os.makedirs("prefix/share/romtool")
-    put("prefix/bin/romtool", ('#!/bin/sh\nexec "%s" "$@"\n' % binary).encode(), 0o755)
-    shutil.copytree(RECIPES + "/cmake", "prefix/share/romtool/cmake")
-    os.mkdir("project")
+    make_prefix(binary)
+    os.makedirs("project/root")
     words = ["cmake", "-G", "Unix Makefiles", "-S", "project", "-B", "made", "-DCMAKE_PREFIX_PATH=" + os.path.abspath("prefix")]
     place = "get_target_property(at romtool::program IMPORTED_LOCATION)\nfile(REAL_PATH ${at} at)\nmessage(STATUS at=${at})"
     later = "%d.0" % (int(installation.version().partition(".")[0]) + 1)
@@ -300,6 +387,10 @@ def cmake_package(binary):
     is_found, said = configured(installation.version(), place)
     if not is_found or "at=%s/romtool\n" % os.path.realpath("prefix/bin") not in said:
         yield "it is not found: %s" % said
+    is_found, said = configured(installation.version(), "romtool_image(TARGET i FORMAT romfs OUTPUT a DIRECTORY root)")
+    done = subprocess.run(["cmake", "--build", "made"], capture_output=True, text=True, timeout=SECONDS)
+    if not is_found or done.returncode or run(binary, "check", "made/a").returncode:
+        yield "an image by the installed package: %s" % (said + done.stdout + done.stderr)
     is_found, said = configured(later, "")
     if is_found:
         yield "version %s is found: %s" % (later, said)
@@ -325,20 +416,17 @@ def make(binary):
     """GNU make: the image's own path has no space, but the current directory has one."""
     top = "with space"
     tree(top)
-    system = System(binary, top, "out/image", [["make"]])
-    put(top + "/Makefile", (MAKEFILE % (RECIPES, "1M")).encode())
+    system = System(binary, top, "out/image", [["make", "copy"]])
+    put(top + "/Makefile", (MAKEFILE % (RECIPES, "8", "1M")).encode())
+    system.copy = "copy"
     yield from system.follows(CONSOLE)
     yield from excluded(system)
-    put(top + "/Makefile", (MAKEFILE % (RECIPES, "2M")).encode())
+    put(top + "/Makefile", (MAKEFILE % (RECIPES, "8K", "1M")).encode())
     yield from system.built("another option", more=CONSOLE)
-    for name in ("a:b", "a$b", "a*b", "a#b", "%41", "a\\b"):
+    for name in ODD_NAMES:
         put("%s/root/%s" % (top, name), b"odd", 0o644)
     yield from system.built("odd names", more=CONSOLE)
-    for name in ("a:b", "%41", "a\\b"):
-        wait_for_clock(top)
-        put("%s/root/%s" % (top, name), b"changed")
-        yield from system.built(name, more=CONSOLE)
-    put(top + "/Makefile", (MAKEFILE % (RECIPES, "1K")).encode())
+    put(top + "/Makefile", (MAKEFILE % (RECIPES, "8K", "1K")).encode())
     yield from system.refused("a limit")
     system.commands = [["make", "clean"]]
     system.build()
@@ -374,14 +462,17 @@ def meson(binary):
     tree(top)
     shutil.rmtree(top + "/over")
     os.symlink("root", top + "/rootfs")
-    for name in ("meson.build", "scan.sh"):
-        shutil.copy(os.path.join(RECIPES, "meson", name), top)
+    for name in ("meson/meson.build", "romtool-image.sh"):
+        shutil.copy(os.path.join(RECIPES, name), top)
     system = System(binary, top, "build it/rootfs.cramfs", [["ninja", "-C", "build it"]])
-    done = subprocess.run(["meson", "setup", "build it"], cwd=top, env=system.environment, capture_output=True, text=True, timeout=SECONDS)
+    done = subprocess.run(
+        ["meson", "setup", "--prefix", "/usr", "build it"], cwd=top, env=system.environment, capture_output=True, text=True, timeout=SECONDS
+    )
     if done.returncode:
         yield done.stdout + done.stderr
         return
-    yield from system.follows(bracket="other")
+    yield from system.follows()
+    yield from installed(system, ["meson", "install", "-C", "build it"], "/usr/share/firmware/rootfs.cramfs")
 
 
 @needs_tools("make")
@@ -392,14 +483,14 @@ def buildroot(binary):
     system = System(binary, ".", "rootfs.romtool", [])
     put("Makefile", STUBS.encode())
     options = ["BR2_EXTERNAL_ROMTOOL_PATH=%s/buildroot" % RECIPES, 'BR2_TARGET_ROOTFS_ROMTOOL_DEVICES="devices"']
-    options += ['BR2_TARGET_ROOTFS_ROMTOOL_SCAN_OPTIONS="--all-root --align 4096"', 'BR2_TARGET_ROOTFS_ROMTOOL_BUILD_OPTIONS="--strict"']
+    options += ['BR2_TARGET_ROOTFS_ROMTOOL_OPTIONS="--all-root --align 4096 --strict"']
     for more, wanted in (
         (['BR2_ENDIAN="LITTLE"'], b"cramfs "), (['BR2_ENDIAN="BIG"'], b"cramfs-be "), (["BR2_TARGET_ROOTFS_ROMTOOL_ROMFS=y"], b"romfs "),
     ):  # fmt: skip
         system.commands = [["make", "rootfs.romtool", *options, *more]]
         status, count, said = system.build()
-        if status or count != 1:
-            yield "%r: status %d, %d builds: %s" % (more, status, count, said)
+        if status or count != 1 or system.calls() != ["pack"]:
+            yield "%r: status %d, replaced %d times by %s: %s" % (more, status, count, system.calls(), said)
             return
         yield from system.compared(more, CONSOLE)
         if run(binary, "check", "rootfs.romtool").stdout[3:][: len(wanted)] != wanted:
@@ -422,8 +513,8 @@ def yocto(binary):
     for devices, more in (("", set()), ("devices", CONSOLE)):
         system.environment |= {**given, "ROMTOOL_DEVICES": devices}
         status, count, said = system.build()
-        if status or count != 1:
-            yield "status %d, %d builds: %s" % (status, count, said)
+        if status or count != 1 or system.calls() != ["pack"]:
+            yield "status %d, replaced %d times by %s: %s" % (status, count, system.calls(), said)
             return
         yield from system.compared("the class", more)
     for expression in re.findall(r"\$\{@(.*?)\}", text):
@@ -446,8 +537,8 @@ def workflow(binary):
     steps = dict(re.findall(r"- name: (.*)\n        run: \|\n((?: {10}.*\n)+)", repository_text("recipes/ci/firmware.yml")))
     system.commands = [["sh", "-euc", steps[it]] for it in ("Build the image", "Check the image")]
     status, count, said = system.build()
-    if status or count != 1:
-        yield "status %d, %d builds: %s" % (status, count, said)
+    if status or count != 1 or system.calls() != ["pack"]:
+        yield "status %d, replaced %d times by %s: %s" % (status, count, system.calls(), said)
         return
     if run(binary, "cat", "rootfs.cramfs", "/etc/motd").stdout != b"hello\n" or b"0x0800" not in bytes_in("rom_map.h"):
         yield "the image or the header has something else"
@@ -467,8 +558,8 @@ def versions(_):
 
 
 TESTS = (
-    cmake_ninja, cmake_makefiles, cmake_ninja_manifest, cmake_makefiles_manifest, cmake_package, make, make_manifest, make_example, meson,
-    buildroot, yocto, workflow, versions,
+    cmake_ninja, cmake_makefiles, cmake_ninja_manifest, cmake_makefiles_manifest, cmake_ninja_at_once, cmake_makefiles_at_once,
+    cmake_package, make, make_manifest, make_example, make_at_once, meson, buildroot, yocto, workflow, versions,
 )  # fmt: skip
 
 

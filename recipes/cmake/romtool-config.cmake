@@ -11,11 +11,10 @@
 #                   [MAX_SIZE n] [STRICT] [XIP] [DEPENDS file|target ..])
 #
 # The target belongs to `all`. OUTPUT is relative to the binary directory, and all other files to the source directory.
-# With DIRECTORY, each build scans the directories into OUTPUT.manifest, which has to be outside them. The options from
-# ALIGN to VOLUME are those of `romtool scan --all`, and those from MAX_SIZE to XIP those of `romtool build`. With
-# MANIFEST, the sources are relative to SOURCES, or else to the source directory. `romtool build` runs if the manifest,
-# the time of a source, an option or the program changed. If it fails, the old image stays, except after an option changed: then
-# CMake itself removes the image, if it generates Makefiles.
+# With DIRECTORY, the options from ALIGN to XIP are those of `romtool pack`, and OUTPUT.manifest has the lines that its errors
+# name. With MANIFEST, those from MAX_SIZE to XIP are of `romtool build`, and the sources are relative to SOURCES, or else to the
+# source directory. Each build runs the program, and replaces the image if its bytes differ. What uses the image depends on
+# the target and on the file. If the program fails, the old image stays.
 
 if(CMAKE_VERSION VERSION_LESS 3.15)
     set(romtool_FOUND FALSE)
@@ -39,7 +38,7 @@ if(NOT TARGET romtool::program)
     add_executable(romtool::program IMPORTED)
     set_target_properties(romtool::program PROPERTIES IMPORTED_LOCATION "${ROMTOOL_PROGRAM}")
 endif()
-set(_ROMTOOL_CHANGES "${CMAKE_CURRENT_LIST_DIR}/romtool-changes.cmake" CACHE INTERNAL "a script of romtool_image")
+set(_ROMTOOL_IMAGE "${CMAKE_CURRENT_LIST_DIR}/../romtool-image.sh" CACHE INTERNAL "a script of romtool_image")
 
 function(romtool_image)
     set(flags ALL_ROOT STRICT XIP)
@@ -83,69 +82,43 @@ function(romtool_image)
     endif()
     get_filename_component(above "${image}" DIRECTORY)
     file(MAKE_DIRECTORY "${above}")
-    set(build)
-    if(it_STRICT)
-        list(APPEND build --strict)
+    set(options)
+    foreach(word ALL_ROOT STRICT XIP ALIGN OWNER EXCLUDE VOLUME MAX_SIZE)
+        string(TOLOWER "--${word}" option)
+        string(REPLACE _ - option "${option}")
+        if(NOT word IN_LIST flags)
+            foreach(each IN LISTS it_${word})
+                list(APPEND options "${option}" "${each}")
+            endforeach()
+        elseif(it_${word})
+            list(APPEND options "${option}")
+        endif()
+    endforeach()
+    if(DEFINED it_DEVICES)
+        get_filename_component(devices "${it_DEVICES}" ABSOLUTE)
+        list(APPEND options --devices "${devices}")
     endif()
-    if(it_XIP)
-        list(APPEND build --xip)
-    endif()
-    if(DEFINED it_MAX_SIZE)
-        list(APPEND build --max-size "${it_MAX_SIZE}")
-    endif()
-
-    set(scan)
+    set(given)
+    set(made "${image}")
     if(DEFINED it_MANIFEST)
         if(NOT DEFINED it_SOURCES)
             set(it_SOURCES .)
         endif()
-        get_filename_component(manifest "${it_MANIFEST}" ABSOLUTE)
+        get_filename_component(given "${it_MANIFEST}" ABSOLUTE)
         get_filename_component(sources "${it_SOURCES}" ABSOLUTE)
-        list(APPEND build -C "${sources}")
-        set(given "${manifest}")
-        set(made)
+        set(options build ${options} -C "${sources}" "${it_FORMAT}" "${given}")
     else()
-        set(manifest "${image}.manifest")
-        set(sources /)
-        set(given)
-        set(made "${manifest}")
-        set(scan -- "$<TARGET_FILE:romtool::program>" --for "${it_FORMAT}")
-        foreach(each IN LISTS it_ALIGN)
-            list(APPEND scan --align "${each}")
-        endforeach()
-        foreach(each IN LISTS it_EXCLUDE)
-            list(APPEND scan --exclude "${each}")
-        endforeach()
-        if(it_ALL_ROOT)
-            list(APPEND scan --all-root)
-        endif()
-        if(DEFINED it_OWNER)
-            list(APPEND scan --owner "${it_OWNER}")
-        endif()
-        if(DEFINED it_DEVICES)
-            get_filename_component(devices "${it_DEVICES}" ABSOLUTE)
-            list(APPEND scan --devices "${devices}")
-        endif()
-        if(DEFINED it_VOLUME)
-            list(APPEND scan --volume "${it_VOLUME}")
-        endif()
-        list(APPEND scan --)
+        list(APPEND made "${image}.manifest")
+        set(options pack ${options} --manifest "${image}.manifest" "${it_FORMAT}")
         foreach(each IN LISTS it_DIRECTORY)
             get_filename_component(directory "${each}" ABSOLUTE)
-            list(APPEND scan "${directory}")
+            list(APPEND options "${directory}")
         endforeach()
     endif()
 
-    # a target of its own runs in each build; the image depends on its stamp, which stays as it is if nothing changed
-    add_custom_target(${it_TARGET}-changes
-        COMMAND "${CMAKE_COMMAND}" "-DIMAGE=${image}" "-DMANIFEST=${manifest}" "-DSTAMP=${image}.stamp" "-DSOURCES=${sources}"
-            -P "${_ROMTOOL_CHANGES}" ${scan}
-        BYPRODUCTS "${image}.stamp" ${made} DEPENDS ${given} ${it_DEPENDS} COMMENT "Looking for changes of ${it_OUTPUT}" VERBATIM)
-    add_custom_command(OUTPUT "${image}"
-        COMMAND romtool::program --explain build ${build} "${it_FORMAT}" "${manifest}" "${image}"
-        DEPENDS ${it_TARGET}-changes "${image}.stamp" "${manifest}" "$<TARGET_FILE:romtool::program>"
-        COMMENT "Building the image ${it_OUTPUT}" VERBATIM)
-    add_custom_target(${it_TARGET} ALL DEPENDS "${image}")
+    add_custom_target(${it_TARGET} ALL
+        COMMAND sh "${_ROMTOOL_IMAGE}" "${image}" "$<TARGET_FILE:romtool::program>" --explain ${options}
+        BYPRODUCTS ${made} DEPENDS ${given} ${it_DEPENDS} COMMENT "Building the image ${it_OUTPUT}" VERBATIM)
 endfunction()
 
 cmake_policy(POP)

@@ -1,41 +1,30 @@
-# Images of directories in a Makefile (GNU make).
+# Images in a Makefile (GNU make).
 #
 #     include romtool.mk
-#     $(call romtool_image,rootfs.cramfs,cramfs,rootfs,--all-root --align 4096,--strict)
+#     $(call romtool_image,rootfs.cramfs,cramfs,rootfs,--all-root --align 4096 --strict)
 #
-# The arguments of romtool_image are the image, its format, one or several directories, options of `romtool scan --all`
-# and options of `romtool build`. Each run of make scans the directories into IMAGE.manifest. `romtool build` runs if the
-# manifest, the time of a source or an option changed. romtool_manifest has an image, its format, a manifest and options of
-# `romtool build`; it does not notice that an option changed. ROMTOOL is the program, and romtool_made lists the files that were
-# made, for a rule like
+# The arguments of romtool_image are the image, its format, one or several directories, and options of `romtool pack`. Those
+# of romtool_manifest are an image, its format, a manifest and options of `romtool build`. Each run of make builds, and replaces
+# the image if its bytes differ; what depends on it is made only then. IMAGE.manifest has the lines that errors of `pack` name.
+# ROMTOOL is the program, and romtool_made lists the files that were made, for a rule like
 #
 #     clean: ; rm -f $(romtool_made)
 #
 # The name of an image has no spaces, and that of a directory is quoted for the shell if it has some. A comma in an option
-# is $(romtool_comma). A source whose name make cannot read is refused, as `build --depfile` does.
+# is $(romtool_comma).
 
 ROMTOOL ?= romtool
 romtool_comma := ,
 romtool_made :=
 .PHONY: romtool_always
 
-# the image is the first target, so that it can be the default goal; the build's options are a comment of the manifest
-define romtool_rules
-$(1): $(1).manifest
-	$$(ROMTOOL) --explain build $(5) --depfile $(1).d $(2) $(1).manifest $(1)
-$(1).manifest: romtool_always
+# the image is the first target, so that it can be the default goal
+define romtool_rule
+$(1): $(2) romtool_always
 	@mkdir -p $$(@D)
-	@$$(ROMTOOL) --explain scan --all --for $(2) $(4) -o $$@.new $(3)
-	@set -- $(2) $(5); echo "# $$$$*" >>$$@.new
-	@if cmp -s $$@.new $$@; then rm $$@.new; else mv $$@.new $$@; fi
-romtool_made += $(1) $(1).manifest $(1).d
--include $(1).d
+	@said=$$$$($$(ROMTOOL) --explain $(3) $$@.new 2>&1) || { printf '%s\n' "$$$$said" >&2; exit 1; }; \
+	if cmp -s $$@.new $$@; then rm $$@.new; else mv $$@.new $$@ && printf '%s\n' "$$$$said"; fi
+romtool_made += $(1) $(1).manifest
 endef
-define romtool_manifest_rules
-$(1): $(3)
-	$$(ROMTOOL) --explain build $(4) --depfile $(1).d $(2) $(3) $(1)
-romtool_made += $(1) $(1).d
--include $(1).d
-endef
-romtool_image = $(eval $(call romtool_rules,$(strip $(1)),$(strip $(2)),$(3),$(4),$(5)))
-romtool_manifest = $(eval $(call romtool_manifest_rules,$(strip $(1)),$(strip $(2)),$(strip $(3)),$(4)))
+romtool_image = $(eval $(call romtool_rule,$(strip $(1)),,pack $(4) --manifest $$$$@.manifest $(2) $(3)))
+romtool_manifest = $(eval $(call romtool_rule,$(strip $(1)),$(3),build $(4) $(2) $(3)))

@@ -6,20 +6,17 @@
 # Owners, modes and devices are those that pseudo shows. ROMTOOL_DEVICES may name a file for --devices.
 
 ROMTOOL_FORMAT ?= "${@'cramfs-be' if d.getVar('SITEINFO_ENDIANNESS') == 'be' else 'cramfs'}"
-ROMTOOL_SCAN_OPTIONS ?= "--align 4096"
-ROMTOOL_BUILD_OPTIONS ?= "--strict"
+ROMTOOL_OPTIONS ?= "--align 4096 --strict"
 ROMTOOL_DEVICES ?= ""
 
 inherit siteinfo
 
 romtool_pack() {
-    set -- ${ROMTOOL_SCAN_OPTIONS}
+    set -- ${ROMTOOL_OPTIONS} --manifest ${WORKDIR}/${IMAGE_NAME}.manifest
     if [ -n "${ROMTOOL_DEVICES}" ]; then
         set -- "$@" --devices "${ROMTOOL_DEVICES}"
     fi
-    romtool --explain scan --all --for ${ROMTOOL_FORMAT} "$@" -o ${WORKDIR}/${IMAGE_NAME}.manifest ${IMAGE_ROOTFS}
-    romtool --explain build ${ROMTOOL_BUILD_OPTIONS} ${ROMTOOL_FORMAT} ${WORKDIR}/${IMAGE_NAME}.manifest \
-        ${IMGDEPLOYDIR}/${IMAGE_NAME}.romtool
+    romtool pack "$@" ${ROMTOOL_FORMAT} ${IMAGE_ROOTFS} ${IMGDEPLOYDIR}/${IMAGE_NAME}.romtool
 }
 
 IMAGE_TYPES += "romtool"
