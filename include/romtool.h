@@ -12,7 +12,8 @@
  * The caller has to keep these rules, which no call can check:
  *   1. A struct romtool_image or romtool_file is all zeros, as ROMTOOL_INIT leaves it, or only this library has written
  *      it. Its fields may be read. (Numbers that romtool_check returned for exactly the same bytes may be put back.)
- *   2. A call on the same image returned each node number that is passed to a call, or romtool_is_node is true of it.
+ *   2. A call on the same image returned each node number that is passed to a call (`root` is one), or romtool_is_node is
+ *      true of it.
  *   3. The bytes with which an image was checked stay unchanged and at their address as long as a struct of the image,
  *      or a pointer to the bytes, is used.
  * As for any C function, a pointer has to point to as many bytes as its length says (NULL with 0 is allowed), and what
@@ -105,7 +106,7 @@ struct romtool_image {
     uint32_t fault;
     uint32_t at;
     uint32_t accessible; /* the number of bytes that belong to the image */
-    uint32_t root;       /* the offset of the root's record */
+    uint32_t root;       /* the offset of the root's record, which is the number of its node */
     uint32_t references; /* the number of references to records, including that of the superblock */
     uint32_t depth;      /* the greatest number of names on a path */
 };

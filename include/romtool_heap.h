@@ -47,7 +47,8 @@ struct romtool_memory rattle_realloc(void *at, romtool_size kept, romtool_size s
 /* Frees the block at `at`, which is never NULL. This is the only argument; the heap has to know the size. */
 void rattle_dealloc(void *at);
 
-/* Only in c/area.c: makes a heap of the `len` bytes at `bytes`. Call it before the first check. A later call begins
+/* Only in c/area.c, which is libromtool_area.a of a release for Linux (link it before libromtool.a), and src/area.c of a
+ * release for boards: makes a heap of the `len` bytes at `bytes`. Call it before the first check. A later call begins
  * again, also with other bytes, and is allowed while no check runs. One area serves one check at a time: two threads
  * that check at the same time need a lock around both checks. */
 void romtool_area(void *bytes, romtool_size len);

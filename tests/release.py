@@ -1,14 +1,17 @@
 #!/usr/bin/env python3
 """Makes the files of a release, installs them into empty directories, and tests what is there.
 
-    release.py [--binary PATH] [--object FILE --library FILE]
+    release.py [--binary PATH] [--object FILE --library FILE --module FILE]
 
 The release is made twice by tools/release and has the same bytes. Its packages are installed into an empty root and are removed
 again. In this root romtool-static runs as an ordinary user without any other file, on the first two commands of the README. Under
-fakeroot the program of the package sees the owners and devices that fakeroot shows.
-A C program outside the tree is built over what the archive installs, by pkg-config and by CMake. tools/install and its
---uninstall leave nothing. Completions offer what help lists. The version is the same in each place. With --object and
---library a trial release is made of these. The last line is `N passed, M failed`, with `, K skipped` if a tool is missing.
+fakeroot the programs of the package and of the archive see the owners and devices that fakeroot shows. romtool-mount of both mounts
+an image.
+A C program outside the tree is built over what the archive installs, by pkg-config and by CMake. The installed archives have each
+function that the installed headers declare, and no link of an installed document leads to a file that is not there. What is in
+the release for boards is tested by boards.py. tools/install and its --uninstall leave nothing. Completions offer what help lists.
+The version is the same in each place. With --object and --library a trial release is made of these, and with --module the release
+for boards of this module. The last line is `N passed, M failed`, with `, K skipped` if a tool is missing.
 """
 
 import glob
@@ -22,6 +25,7 @@ import sys
 import tarfile
 import tempfile
 
+import fuse
 from files import repository_text as text_of
 from harness import HERE, SECONDS, Counts, missing, parser, program_of
 from rooms import NOBODY, become_nobody
@@ -51,16 +55,36 @@ echo '#!/bin/sh' >root/init
 chown 5:6 root/init
 chmod 4755 root/init
 chmod 600 root/dev/console
-"$1" scan --all --for cramfs -o manifest root
-"$1" build cramfs manifest image >/dev/null
+"$1" pack --quiet --strict --manifest manifest cramfs root image >/dev/null
+cat manifest
 "$1" extract --owners image out | sed 's, out/.*,,'
 stat -c '%a %u %g' out/init
 """
 FAKED_LIST = """dir / 0755 0 0
 dir /dev 0755 0 0
 nod /dev/console 0600 0 0 c 5 1
+file /init 4755 5 6 4 root/init
+dir / 0755 0 0
+dir /dev 0755 0 0
+nod /dev/console 0600 0 0 c 5 1
 file /init 4755 5 6 4
 4755 5 6
+"""
+# the answers of two checks of an image's first bytes, without memory and with it, and the blocks that are left
+AREA = """#include <stdio.h>
+#include "romtool_heap.h"
+int main(void) {
+    static uint64_t room[4096];
+    static uint8_t held[8192];
+    struct romtool_image image = ROMTOOL_INIT;
+    FILE *file = fopen("app.cramfs", "rb");
+    const size_t len = fread(held, 1, sizeof held, file);
+    const unsigned refused = romtool_check(&image, held, len);
+    romtool_area(room, sizeof room);
+    const unsigned error = romtool_check(&image, held, len);
+    printf("%u %u %d\\n", refused, error, (int)romtool_area_blocks());
+    return 0;
+}
 """
 CMAKE = """cmake_minimum_required(VERSION 3.10)
 project(first C)
@@ -100,7 +124,10 @@ def versions(binary, counts):
     counts.equal("the man page's version", re.findall(r'^\.TH .*"romtool (\S+)"', manual or "", re.M), [version])
     in_header = re.findall(r'VERSION\w* "([\d.]+)"', text_of("include/romtool.h"))
     counts.equal("the header's version", in_header or [version], [version])
-    in_readme = set(re.findall(r"romtool(?:-dev)?[-_](\d+\.\d+\.\d+)", text_of("README.md")))
+    counts.equal(
+        "the version of mount's man page", re.findall(r'^\.TH .*"romtool (\S+)"', text_of("mount/romtool-mount.1"), re.M), [version]
+    )
+    in_readme = set(re.findall(r"romtool(?:-dev|-mount|-embedded)?[-_](\d+\.\d+\.\d+)", text_of("README.md")))
     counts.equal("the version of the files that the README names", in_readme, {version})
     said = subprocess.run([binary, "--explain", "--version"], capture_output=True, text=True, timeout=SECONDS).stderr
     counts.equal("what --version says", said.splitlines()[-1:], ["romtool " + version])
@@ -192,14 +219,57 @@ def installs(binary, library, top, counts):
     there = below(root + prefix)
     wanted = ["bin/romtool", "share/man/man1/romtool.1", "share/doc/romtool/README.md", *installation.COMPLETIONS.values()]
     wanted += ["share/romtool/" + it for it in installation.RECIPES.values()]
-    wanted += ["lib/libromtool.a", "include/romtool.h", "include/romtool_heap.h", "lib/pkgconfig/romtool.pc"] if library else []
+    wanted += (
+        ["lib/libromtool.a", "lib/libromtool_area.a", "include/romtool.h", "include/romtool_heap.h", "lib/pkgconfig/romtool.pc"]
+        if library
+        else []
+    )
+    wanted += ["bin/romtool-mount", "share/man/man1/romtool-mount.1"] if library and installation.has_fuse() else []
     counts.equal("what tools/install leaves out", [it for it in wanted if it not in there], [])
+    documents(root + prefix, counts)
+    if library:
+        headers(root + prefix, counts)
     with open(root + "/opt/own", "w", encoding="utf-8"):
         pass
     works(counts, [TOOLS + "/install", "--uninstall", prefix, root])
     counts.equal("what is left behind --uninstall", below(root), ["opt/", "opt/own"])
     counts.equal("a second --uninstall", ran([TOOLS + "/install", "--uninstall", prefix, root])[0], 1)
     counts.equal("a prefix that is not absolute", ran([*words, "usr", root])[0], 1)
+
+
+def documents(prefix, counts):
+    """Each link of an installed document leads to a file that is installed, and to a heading of it."""
+    folder = prefix + "/" + installation.DOCUMENTS
+    for at, _, names in os.walk(folder):
+        for name in (it for it in names if it.endswith(".md")):
+            text = held(os.path.join(at, name)).decode()
+            found = [it.partition("#")[0] for it in re.findall(r"\]\(([^)\s]+)\)", text) if "://" not in it]
+            lost = [it for it in found if not os.path.exists(os.path.join(at, it))]
+            counts.equal("links of the installed %s" % name, lost, [])
+            counts.equal("words of the installed %s" % name, "](../tests" in text or "](../crates" in text, False)
+
+
+def headers(prefix, counts):
+    """Each function that an installed header declares is in an installed archive."""
+    if tool := missing("nm"):
+        counts.skips("what the installed archives have: there is no %s" % tool)
+        return
+    names = ("romtool.h", "romtool_heap.h")
+    text = "".join(re.sub(r"/\*.*?\*/", "", held(prefix + "/include/" + it).decode(), flags=re.S) for it in names)
+    text = re.sub(r"#if ROMTOOL_32\n.*?#else\n", "", text, flags=re.S)
+    declared = set(re.findall(r"\b((?:romtool|rattle)_\w+)\([^;{()]*\);", text))
+    counts.equal("functions that are declared", len(declared), 17 + 3 + 3)
+    has = set()
+    for archive in glob.glob(prefix + "/lib/*.a"):
+        has |= set(re.findall(r" T (\w+)", ran(["nm", archive])[1]))
+    counts.equal("what the installed archives lack", sorted(declared - has), [])
+
+
+def module_of(given, top, counts):
+    """Returns the module for boards, which is kept once of the proved build if none is given."""
+    if not given:
+        works(counts, [TOOLS + "/rom32", "--keep", top + "/rom_c.ll"])
+    return os.path.abspath(given or top + "/rom_c.ll")
 
 
 def made_twice(given, top, counts):
@@ -222,7 +292,7 @@ def contents(folder, counts):
     """The release has the files that it is to have, with their sums, and what the gate said of each crate."""
     version = installation.version()
     wanted = ["PROVENANCE.txt", "SHA256SUMS", "romtool-%s-x86_64-linux-objects.tar.gz", "romtool-%s-x86_64-linux.tar.gz"]
-    wanted += ["romtool-dev_%s_amd64.deb", "romtool_%s_amd64.deb"]
+    wanted += ["romtool-dev_%s_amd64.deb", "romtool-embedded-%s.tar.gz", "romtool-mount_%s_amd64.deb", "romtool_%s_amd64.deb"]
     counts.equal("the files of the release", sorted(os.listdir(folder)), sorted(it.replace("%s", version) for it in wanted))
     works(counts, ["sha256sum", "--check", "--quiet", "SHA256SUMS"], cwd=folder)
     with open(folder + "/PROVENANCE.txt", encoding="utf-8") as it:
@@ -256,7 +326,7 @@ def packages(folder, static, top, counts):
     if os.geteuid() or not shutil.which("dpkg"):
         for it in debs:
             works(counts, ["dpkg-deb", "-x", it, root])
-        under_fakeroot(root + "/usr/bin/romtool", top, counts)
+        of_package(root, top, counts)
         as_a_stranger(root, static, counts)
         counts.skips("removing the packages: that needs root and dpkg")
         return
@@ -265,30 +335,69 @@ def packages(folder, static, top, counts):
     with open(root + "/var/lib/dpkg/status", "w", encoding="utf-8"):
         pass
     works(counts, dpkg(root, "--install", *debs))
-    under_fakeroot(root + "/usr/bin/romtool", top, counts)
+    of_package(root, top, counts)
     as_a_stranger(root, static, counts)
-    works(counts, dpkg(root, "--purge", "romtool", "romtool-dev"))
+    works(counts, dpkg(root, "--purge", "romtool", "romtool-mount", "romtool-dev"))
     counts.equal("what the packages leave", [it for it in below(root) if not it.startswith("var/")], [])
 
 
+def of_package(root, top, counts):
+    """The programs of the packages do what those of the archive do, under fakeroot and with FUSE."""
+    under_fakeroot(root + "/usr/bin/romtool", top, "package", counts)
+    mounts(root + "/usr/bin", top, "package", counts)
+
+
+def mounts(directory, top, name, counts):
+    """romtool-mount of this directory mounts an image that romtool beside it built, and a file has the bytes that were packed."""
+    if not fuse.is_there():
+        counts.skips("romtool-mount: there is no /dev/fuse or fusermount3")
+        return
+    work = "%s/mount-%s" % (top, name)
+    os.makedirs(work + "/root/etc")
+    os.mkdir(work + "/mount")
+    text = bytes(range(256)) * 33
+    with open(work + "/root/etc/file", "wb") as it:
+        it.write(text)
+    works(counts, [directory + "/romtool", "pack", "--quiet", "cramfs", work + "/root", work + "/image"])
+    said = works(counts, [directory + "/romtool-mount", "-V"])
+    counts.equal("a path of the checkout in romtool-mount", TOP.encode() in held(directory + "/romtool-mount"), False)
+    counts.equal("romtool-mount -V of the " + name, re.findall(r"^romtool (\S+), FUSE", said or "", re.M), [installation.version()])
+    try:
+        works(counts, [directory + "/romtool-mount", work + "/image", work + "/mount"])
+        counts.equal("it is mounted by the " + name, os.path.ismount(work + "/mount"), True)
+        counts.equal("a mounted file by the " + name, held(work + "/mount/etc/file"), text)
+        counts.equal("names by the " + name, below(work + "/mount"), ["etc/", "etc/file"])
+        works(counts, ["fusermount3", "-u", work + "/mount"])
+        counts.equal("nothing is mounted by the " + name, os.path.ismount(work + "/mount"), False)
+    finally:
+        fuse.unmount(work + "/mount")
+
+
 def readme_commands():
-    """Returns the first two commands of romtool that the README shows: the words, and the file that takes what is printed."""
-    shown = re.findall(r"^\$ (romtool .*)$", text_of("README.md"), re.M)[:2]
-    return [(shlex.split(words)[1:], to.strip() or None) for words, _, to in (it.partition(">") for it in shown)]
+    """Returns the words of the first two commands of romtool that the README shows."""
+    return [shlex.split(it)[1:] for it in re.findall(r"^\$ (romtool .*)$", text_of("README.md"), re.M)[:2]]
 
 
-def under_fakeroot(program, top, counts):
+def under_fakeroot(program, top, name, counts):
     """Under fakeroot an ordinary user's devices, owners and modes are in the manifest and in the image, and are extracted again."""
     if not shutil.which("fakeroot"):
         counts.skips("fakeroot: it is not installed")
         return
-    work = top + "/faked"
+    work = "%s/faked-%s" % (top, name)
     os.mkdir(work)
     with open(work + "/script", "w", encoding="utf-8") as it:
         it.write(FAKED)
     os.chmod(work, 0o777)
     how = {"cwd": work, "preexec_fn": become_nobody} if os.geteuid() == 0 else {"cwd": work}
-    counts.equal("under fakeroot", ran(["fakeroot", "sh", "script", program], **how), (0, FAKED_LIST))
+    counts.equal("under fakeroot by the " + name, ran(["fakeroot", "sh", "script", program], **how), (0, FAKED_LIST))
+
+
+def static_under_fakeroot(program, top, counts):
+    """Under fakeroot, which does not reach it, romtool-static refuses to pack and to scan."""
+    work = top + "/faked-static"
+    os.makedirs(work + "/root")
+    for words in (["pack", "--quiet", "cramfs", "root", "image"], ["scan", "--all", "root"]) if shutil.which("fakeroot") else ():
+        counts.equal("romtool-static under fakeroot: " + words[0], ran(["fakeroot", program, *words], cwd=work), (3, "file root\n"))
 
 
 def as_a_stranger(root, static, counts):
@@ -310,17 +419,11 @@ def as_a_stranger(root, static, counts):
             os.chown(at, NOBODY, NOBODY)
         shutil.copy(static, work + "/romtool-static")
         how, program = {"cwd": work, "preexec_fn": lambda: enter(root)}, "/work/romtool-static"
-    commands = [*readme_commands(), (["check", "app.cramfs"], None), (["cat", "app.cramfs", "/bin/init"], None)]
-    counts.equal("the README's first two commands", [it[0][0] for it in commands[:2]], ["scan", "build"])
-    said = []
-    for words, to in commands:
-        status, out = ran([program, *words], **how)
-        counts.equal(" ".join(words), status, 0)
-        if to:
-            with open(os.path.join(work, to), "w", encoding="utf-8") as it:
-                it.write(out)
-        said.append(out)
-    counts.equal("what the program says in the empty root", said[1:], ["ok 4096\n", "ok cramfs 5 2\n", "#!/bin/sh\n"])
+    commands = [*readme_commands(), ["cat", "app.cramfs", "/bin/init"]]
+    counts.equal("the README's first two commands", [it[0] for it in commands[:2]], ["pack", "check"])
+    said = [ran([program, *words], stderr=subprocess.DEVNULL, **how) for words in commands]
+    wanted = [(0, "ok 4096\n"), (0, "ok cramfs 5 2\n"), (0, "#!/bin/sh\n")]
+    counts.equal("what the program says in the empty root", said, wanted)
     shutil.rmtree(work)
 
 
@@ -361,7 +464,7 @@ def for_c(prefix, binary, top, counts):
         it.write("dir / 0755 0 0\ndir /bin 0755 0 0\nfile /bin/init 0755 0 0 4096 app/bin/init\n")
     works(counts, [binary, "build", "cramfs", "manifest", "app.cramfs"], cwd=room)
     wanted = "at 4096 of the image: 23 21 2f 62\n"
-    for by, make in (("cc", with_own_memory), ("pkg-config", by_pkg_config), ("cmake", by_cmake)):
+    for by, make in (("cc", with_own_memory), ("ld", with_area), ("pkg-config", by_pkg_config), ("cmake", by_cmake)):
         if not shutil.which(by):
             counts.skips("a C program by %s: there is no %s" % (by, by))
             continue
@@ -374,6 +477,15 @@ def with_own_memory(prefix, room, counts):
     """Builds the program with functions over memory of its own, which take the place of those in the archive."""
     words = ["cc", "-std=c99", "-I" + prefix + "/include", "first.c", TOP + "/c/heap.c", prefix + "/lib/libromtool.a"]
     return room + "/own" if works(counts, [*words, "-o", "own"], cwd=room) is not None else None
+
+
+def with_area(prefix, room, counts):
+    """Builds a program over the archive with the heap over an array: a check is refused memory until the array is given."""
+    with open(room + "/area.c", "w", encoding="utf-8") as it:
+        it.write(AREA)
+    words = ["cc", "-std=c99", "-I" + prefix + "/include", "area.c", "-L" + prefix + "/lib", "-lromtool_area", "-lromtool", "-o", "area"]
+    if works(counts, words, cwd=room) is not None:
+        counts.equal("the program with an area", works(counts, [room + "/area"], cwd=room), "15 0 0\n")
 
 
 def by_pkg_config(prefix, room, counts):
@@ -403,6 +515,8 @@ def lacks(library, is_trial):
         return "the gate did not pass here: ./test runs it"
     if tool := missing("cc", "ar", "readelf", "dpkg-deb", "dpkg-query", "git", "rt"):
         return "there is no %s" % tool
+    if not installation.has_fuse():
+        return "there is no pkg-config or libfuse3-dev"
     if ran(["cc", "-print-file-name=libc.a"])[1].strip() == "libc.a":
         return "there is no static C library (libc6-dev)"
     return None if os.path.exists(library) else "there is no %s: tools/library builds it" % library
@@ -412,6 +526,7 @@ def main():
     reads = parser("Make the files of a release, install them, and test what is there.")
     reads.add_argument("--object", help="an object file, for a trial")
     reads.add_argument("--library", help="an archive of the library for C, for a trial")
+    reads.add_argument("--module", help="the module for boards, if not the one of the proved build")
     arguments, counts = reads.parse_args(), Counts()
     binary, library = program_of(arguments), os.path.abspath(arguments.library or installation.LIBRARY)
     given = [it for name in ("object", "library") for it in ("--" + name, getattr(arguments, name)) if getattr(arguments, name)]
@@ -422,7 +537,7 @@ def main():
         shells(binary, top, counts)
         installs(binary, library if os.path.exists(library) and shutil.which("cc") else None, top, counts)
         why = lacks(library, bool(given))
-        folder = None if why else made_twice(given, top, counts)
+        folder = None if why else made_twice([*given, "--module", module_of(arguments.module, top, counts)], top, counts)
         if why:
             counts.skips("the release: " + why)
         if folder:
@@ -431,6 +546,9 @@ def main():
                 archive.extractall(top + "/unpacked")
             contents(folder, counts)
             packages(folder, prefix + "/bin/romtool-static", top, counts)
+            under_fakeroot(prefix + "/bin/romtool", top, "archive", counts)
+            static_under_fakeroot(prefix + "/bin/romtool-static", top, counts)
+            mounts(prefix + "/bin", top, "archive", counts)
             lint(folder, counts)
             answers(prefix + "/bin/romtool-static", counts)
             if not given:

@@ -72,7 +72,7 @@ def try_words(counts):
                           (["tools/library", "--help"], 0), (["tools/edits", "--help"], 0), (["tools/unproved", "--help"], 2),
                           (["tools/install", "--help"], 0), (["tools/release", "--help"], 0), (["tools/completions.py"], 2),
                           (["tools/rom32", "--help"], 0), (["tools/rom32"], 2), (["tools/rom32", "i386"], 2),
-                          (["tools/page", "--help"], 0), (["tools/manual", "--help"], 0),
+                          (["tools/page", "--help"], 0), (["tools/manual", "--help"], 0), (["tools/embedded", "--help"], 0),
                           (["tools/clauses", "--help"], 2), (["tools/goals", "--help"], 2)):  # fmt: skip
         ran = subprocess.run([os.path.join(top, words[0]), *words[1:]], capture_output=True, text=True)
         counts.equal(" ".join(words), ran.returncode, status)

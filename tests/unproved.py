@@ -1,8 +1,10 @@
 #!/usr/bin/env python3
-"""Builds the unproved program by tools/unproved, and compares it with the proved one on each case of this directory.
+"""Builds the unproved program and library by tools/unproved, and compares them with the proved program on each case of this directory.
 
 Both programs make each run of a case, each in its own directory. The output, messages, status, rest of input and files
-have to be the same. The last line is `N passed, M failed`, with `, K skipped` if cases were skipped.
+have to be the same. The library for C of tools/unproved --library answers `check`, `list` and `serve` of the cases as the proved
+program does (answers.c, see c.py), by the files that it has beside it; and tools/rom32 makes a library of its module. The last
+line is `N passed, M failed`, with `, K skipped` if cases were skipped.
 """
 
 import os
@@ -11,7 +13,8 @@ import subprocess
 import sys
 import tempfile
 
-from harness import HERE, Counts, parser, program_of
+import c
+from harness import HERE, Counts, missing, parser, program_of
 from run import lay_out, load, started, topics
 
 TOOL = os.path.join(HERE, "..", "tools", "unproved")
@@ -57,10 +60,30 @@ def answers(program, case):
         shutil.rmtree(top)
 
 
+def by_library(proved, folder, counts):
+    """Builds the unproved library, and counts what it says of itself and whether a C program over it answers as the proved one."""
+    if tool := missing("cc", "pkg-config"):
+        counts.skips("the unproved library: there is no %s" % tool)
+        return
+    ran = subprocess.run([TOOL, "--library", "library"], stdout=subprocess.PIPE, stderr=subprocess.STDOUT, cwd=folder)
+    wanted = b"UNPROVED: library/lib/libromtool.a, of which nothing is proved\n"
+    counts.equal("tools/unproved --library", (ran.returncode, ran.stdout), (0, wanted))
+    place = {**os.environ, "PKG_CONFIG_PATH": folder + "/library/lib/pkgconfig"}
+    flags = c.said(["pkg-config", "--cflags", "--libs", "romtool"], env=place).stdout.decode().split()
+    made = folder + "/answers"
+    warned = ["-std=c99", "-Wall", "-Wextra", "-Werror"]
+    if c.compiled(["cc", *warned, os.path.join(c.SOURCES, "answers.c"), *flags, "-o", made], counts):
+        c.cases(proved, made, counts)
+    words = [os.path.join(HERE, "..", "tools", "rom32"), "thumbv7m", "--module", "library/rom_c.ll", "-o", "thumbv7m.a"]
+    done = c.said(words, cwd=folder)
+    counts.equal("tools/rom32 of the unproved module", (done.returncode, done.stdout[-300:] * bool(done.returncode)), (0, b""))
+
+
 def main():
     arguments = parser("Compare the unproved program with the proved one on each case.").parse_args()
     proved, counts = program_of(arguments), Counts()
     with tempfile.TemporaryDirectory(prefix="unproved-") as folder:
+        by_library(proved, folder, counts)
         unproved = built(folder, counts)
         for topic in topics() if unproved else []:
             for case in load(topic):

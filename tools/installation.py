@@ -2,6 +2,7 @@
 
 import os
 import re
+import shutil
 import subprocess
 import sys
 import tempfile
@@ -17,14 +18,18 @@ GUIDES = ("C", "FAULTS", "LINES", "LINUX", "MANIFEST", "PROTOCOL")
 DOCUMENTS = "share/doc/romtool"
 # the recipes for build systems, by their paths in recipes/ and under share/romtool
 RECIPES = {
-    **{f"cmake/{it}.cmake": f"cmake/{it}.cmake" for it in ("romtool-config", "romtool-config-version", "romtool-changes")},
+    **{f"cmake/{it}.cmake": f"cmake/{it}.cmake" for it in ("romtool-config", "romtool-config-version")},
     "make/romtool.mk": "romtool.mk",
+    "romtool-image.sh": "romtool-image.sh",
 }
 COMPLETIONS = {
     "bash": "share/bash-completion/completions/romtool",
     "zsh": "share/zsh/site-functions/_romtool",
     "fish": "share/fish/vendor_completions.d/romtool.fish",
 }
+# how the mount is compiled: for whatever directory it is in, with the hardening of Debian, and without names for a debugger
+MOUNT = ["-std=c11", "-O2", "-fPIE", "-fstack-protector-strong", "-D_FORTIFY_SOURCE=2", "-Iinclude", f"-ffile-prefix-map={TOP}=."]
+MOUNT_LINKED = ["-pie", "-Wl,--gc-sections", "-Wl,--as-needed", "-Wl,-z,relro,-z,now", "-Wl,--build-id=sha1", "-s"]
 PKG_CONFIG = """prefix=${{pcfiledir}}/../..
 includedir=${{prefix}}/include
 libdir=${{prefix}}/lib
@@ -35,8 +40,8 @@ Version: {version}
 Cflags: -I${{includedir}}
 Libs: -L${{libdir}} -lromtool
 """
-CMAKE = """# romtool: a proved reader of romfs and cramfs images. The target is romtool::romtool. If the program is installed beside it,
-# there are also romtool::program and romtool_image.
+CMAKE = """# romtool: a proved reader of romfs and cramfs images. The targets are romtool::romtool, and romtool::area with a heap over an
+# array. If the program is installed beside it, there are also romtool::program and romtool_image.
 get_filename_component(_romtool_prefix "${CMAKE_CURRENT_LIST_DIR}/../../.." ABSOLUTE)
 if(NOT TARGET romtool::romtool)
     add_library(romtool::romtool STATIC IMPORTED)
@@ -44,6 +49,11 @@ if(NOT TARGET romtool::romtool)
         IMPORTED_LOCATION "${_romtool_prefix}/lib/libromtool.a"
         IMPORTED_LINK_INTERFACE_LANGUAGES C
         INTERFACE_INCLUDE_DIRECTORIES "${_romtool_prefix}/include")
+    add_library(romtool::area STATIC IMPORTED)
+    set_target_properties(romtool::area PROPERTIES
+        IMPORTED_LOCATION "${_romtool_prefix}/lib/libromtool_area.a"
+        IMPORTED_LINK_INTERFACE_LANGUAGES C
+        INTERFACE_LINK_LIBRARIES romtool::romtool)
 endif()
 include("${_romtool_prefix}/share/romtool/cmake/romtool-config.cmake" OPTIONAL)
 set(romtool_FOUND TRUE)
@@ -127,16 +137,40 @@ def licences():
     return ("\n" + "=" * 78 + "\n\n").join(parts).encode()
 
 
+def compiled(source, item):
+    """Compiles a file of c/ for the archives, with the compiler of this machine."""
+    words = ["-std=c99", "-O2", "-fPIC", "-Iinclude", "-ffunction-sections", "-fdata-sections", "-c", source]
+    run("cc", *words, "-o", item, cwd=TOP)
+
+
 def whole_archive(archive):
     """Returns the library for C as one archive: what `rt lib` built, and the three functions over malloc that a check calls.
     A program that brings these functions along is linked with its own, since a member is only taken if it is needed."""
     with tempfile.TemporaryDirectory(prefix="romtool-archive-") as room:
-        words = ["-std=c99", "-O2", "-fPIC", "-Iinclude", "-ffunction-sections", "-fdata-sections", "-c", "c/heap.c"]
-        run("cc", *words, "-o", f"{room}/romtool_heap.o", cwd=TOP)
+        compiled("c/heap.c", f"{room}/romtool_heap.o")
         with open(f"{room}/libromtool.a", "wb") as it:
             it.write(content(archive))
         run("ar", "rsD", "libromtool.a", "romtool_heap.o", cwd=room)
         return content(f"{room}/libromtool.a")
+
+
+def area_archive():
+    """Returns the heap over an array as an archive. A program that is linked with it before the library uses it."""
+    with tempfile.TemporaryDirectory(prefix="romtool-archive-") as room:
+        compiled("c/area.c", f"{room}/romtool_area.o")
+        run("ar", "rcsD", "libromtool_area.a", "romtool_area.o", cwd=room)
+        return content(f"{room}/libromtool_area.a")
+
+
+def installed_text(name, names):
+    """Returns a document as it is installed with other documents: of a link to a file that is not among them only the words stay."""
+
+    def kept(it):
+        target = os.path.normpath(os.path.join(os.path.dirname(name), it[2].partition("#")[0])) if it[2][0] != "#" else name
+        return it[0] if target in names or "://" in it[2] else it[1]
+
+    parts = re.split(r"(^```.*?^```$)", content(name).decode(), flags=re.M | re.S)
+    return "".join(it if it.startswith("```") else re.sub(r"\[([^\]]*)\]\(([^)\s]+)\)", kept, it) for it in parts).encode()
 
 
 def program_files(program):
@@ -145,14 +179,35 @@ def program_files(program):
     found = {"bin/romtool": (content(program), 0o755), "share/man/man1/romtool.1": (manual, 0o644)}
     for shell, path in COMPLETIONS.items():
         found[path] = (completions.text(shell, program).encode(), 0o644)
-    for name in ("README.md", "CHANGELOG.md", "LICENSE"):
-        found[f"{DOCUMENTS}/{name}"] = (content(name), 0o644)
-    for name in GUIDES:
-        found[f"{DOCUMENTS}/docs/{name}.md"] = (content(f"docs/{name}.md"), 0o644)
+    texts = ["README.md", "CHANGELOG.md", *(f"docs/{name}.md" for name in GUIDES)]
+    for name in texts:
+        found[f"{DOCUMENTS}/{name}"] = (installed_text(name, [*texts, "LICENSE"]), 0o644)
+    found[f"{DOCUMENTS}/LICENSE"] = (content("LICENSE"), 0o644)
     for name, path in RECIPES.items():
-        found[f"share/romtool/{path}"] = (content(f"recipes/{name}"), 0o644)
+        found[f"share/romtool/{path}"] = (content(f"recipes/{name}"), 0o755 if name.endswith(".sh") else 0o644)
     found[f"{DOCUMENTS}/LICENSES.txt"] = (licences(), 0o644)
     return found
+
+
+def has_fuse():
+    """Returns whether the mount can be compiled here: cc, pkg-config and libfuse 3 are there."""
+    if not shutil.which("cc") or not shutil.which("pkg-config"):
+        return False
+    return not subprocess.run(["pkg-config", "--exists", "fuse3"], stdin=subprocess.DEVNULL).returncode
+
+
+def mount_files(library):
+    """Returns the files of romtool-mount, in the same form, compiled over the bytes of the library for C."""
+    flags = {it: run("pkg-config", f"--{it}", "fuse3").decode().split() for it in ("cflags", "libs")}
+    with tempfile.TemporaryDirectory(prefix="romtool-mount-") as room:
+        with open(f"{room}/libromtool.a", "wb") as it:
+            it.write(library)
+        words = [*MOUNT, *flags["cflags"], "mount/romtool-mount.c", f"{room}/libromtool.a", *MOUNT_LINKED, *flags["libs"]]
+        run("cc", *words, "-o", f"{room}/romtool-mount", cwd=TOP)
+        return {
+            "bin/romtool-mount": (content(f"{room}/romtool-mount"), 0o755),
+            "share/man/man1/romtool-mount.1": (content("mount/romtool-mount.1"), 0o644),
+        }
 
 
 def library_version():
@@ -171,5 +226,6 @@ def library_files(archive):
     for header in ("romtool.h", "romtool_heap.h"):
         found["include/" + header] = (content("include/" + header), 0o644)
     found["lib/libromtool.a"] = (whole_archive(archive), 0o644)
+    found["lib/libromtool_area.a"] = (area_archive(), 0o644)
     found[f"{DOCUMENTS}/examples/first.c"] = (content("tests/c/first.c"), 0o644)
     return found
