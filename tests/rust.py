@@ -3,8 +3,9 @@
 
     rust.py [--binary PATH] [--library PATH]
 
-The crate's own tests and the example of its documentation are run by cargo, without warnings, and its sources have to be
-as rustfmt leaves them. Then its example `answers` answers `check` and `list` on the cases (see run.py), and `cat` of each
+The crate's own tests and the example of its README are run by cargo, without warnings, with each set of its features and also
+over an archive as a release has it, and its sources have to be as rustfmt leaves them. A program without std reads an image over
+the heap of c/area.c. Then the crate's example `answers` answers `check` and `list` on the cases (see run.py), and `cat` of each
 regular file of them and of one directory in each format, as romtool does. The last line is `N passed, M failed`, with
 `, K skipped` if cargo is not installed.
 """
@@ -20,8 +21,67 @@ import c
 from harness import Counts, missing, parser, program_of
 from romtool import entries_of, run
 
+sys.path.insert(0, os.path.join(c.TOP, "tools"))
+
+import installation  # noqa: E402
+
 CRATE = os.path.join(c.TOP, "bindings", "rust")
 DONE = re.compile(r"test result: ok\. (\d+) passed; 0 failed")
+
+
+# a program without std and without a heap of its own, whose status is 42 if it reads the file
+BARE = {
+    "Cargo.toml": """[package]
+name = "bare"
+version = "0.0.0"
+edition = "2021"
+[dependencies]
+romtool = { path = "%(crate)s", default-features = false }
+[profile.dev]
+panic = "abort"
+""",
+    "build.rs": """fn main() {
+    println!("cargo:rustc-link-search=native=%(release)s");
+    println!("cargo:rustc-link-lib=static=romtool_area");
+    println!("cargo:rustc-link-lib=c");
+}
+""",
+    "src/main.rs": """#![no_std]
+#![no_main]
+use romtool::Image;
+
+static HELD: &[u8] = include_bytes!("%(crate)s/tests/small.romfs");
+static mut ROOM: [u64; 1024] = [0; 1024];
+
+extern "C" {
+    fn romtool_area(bytes: *mut u64, len: u64);
+}
+
+#[panic_handler]
+fn panics(_: &core::panic::PanicInfo) -> ! {
+    loop {}
+}
+
+// core of this machine is compiled for unwinding
+#[no_mangle]
+pub extern "C" fn rust_eh_personality() {}
+
+fn read() -> Result<bool, romtool::Error> {
+    let Ok(image) = Image::check(HELD) else { return Ok(false) };
+    let mut held = [0; 6];
+    Ok(image.lookup("/message")?.open()?.copy_next(&mut held)? == 6 && &held == b"hello\\n")
+}
+
+#[no_mangle]
+pub extern "C" fn main() -> i32 {
+    let refused = Image::check(HELD).is_err();
+    unsafe { romtool_area(core::ptr::addr_of_mut!(ROOM).cast(), 8192) };
+    if refused && read() == Ok(true) { 42 } else { 1 }
+}
+""",
+}
+# features, and how many tests pass with them at least; the README's example has no heap of its own
+FEATURES = (([], 13), (["--no-default-features", "--features", "alloc"], 2), (["--no-default-features", "--tests"], 1))
 
 
 def cargo(words, top, archive):
@@ -31,21 +91,51 @@ def cargo(words, top, archive):
     return c.said(["cargo", *words], cwd=CRATE, env={**os.environ, **more})
 
 
+def of_release(top, archive):
+    """Returns the archive as tools/install installs it, with the functions over malloc."""
+    path = top + "/release/libromtool.a"
+    os.mkdir(top + "/release")
+    with open(path, "wb") as file:
+        file.write(installation.whole_archive(archive))
+    return path
+
+
 def own_tests(top, archive, counts):
-    """The crate's own tests and the example of its documentation, and the pages of it."""
-    done = cargo(["test", "--offline"], top, archive)
-    text = done.stdout.decode(errors="replace")
-    passed = [int(it) for it in DONE.findall(text)]
-    if done.returncode or len(passed) < 3 or not passed[-1]:
-        counts.fails("cargo test", text.splitlines()[-30:])
-    else:
-        counts.passes(sum(passed))
+    """The crate's own tests and the example of its README, with each set of features, and the pages of its documentation."""
+    for over in (archive, of_release(top, archive)):
+        for features, least in FEATURES:
+            done = cargo(["test", "--offline", *features], top, over)
+            text = done.stdout.decode(errors="replace")
+            passed = [int(it) for it in DONE.findall(text)]
+            what = "cargo test %s over %s" % (" ".join(features), os.path.basename(over))
+            if done.returncode or sum(passed) < least:
+                counts.fails(what, text.splitlines()[-30:])
+            else:
+                counts.passes(sum(passed))
     done = cargo(["doc", "--offline"], top, archive)
     counts.equal("cargo doc", done.returncode, 0)
+    done = cargo(["test", "--offline"], top, top + "/none/librom_c.a")
+    said = (done.returncode != 0, b"set ROMTOOL_LIB_DIR, or run tools/library" in done.stdout)
+    counts.equal("no archive", said, (True, True))
     if shutil.which("rustfmt"):
         counts.equal("cargo fmt --check", cargo(["fmt", "--check"], top, archive).returncode, 0)
     else:
         counts.skips("the form of the sources: there is no rustfmt")
+
+
+def bare(top, archive, counts):
+    """A program without std reads an image, over the heap of c/area.c."""
+    values = {"crate": os.path.realpath(CRATE), "release": top + "/release"}
+    with open(top + "/release/libromtool_area.a", "wb") as file:
+        file.write(installation.area_archive())
+    for name, text in BARE.items():
+        os.makedirs(os.path.dirname("%s/bare/%s" % (top, name)), exist_ok=True)
+        with open("%s/bare/%s" % (top, name), "w", encoding="utf-8") as file:
+            file.write(text % values)
+    done = cargo(["build", "--offline", "--manifest-path", top + "/bare/Cargo.toml"], top, archive)
+    counts.equal("a program without std", (done.returncode, done.stdout[-2000:] * bool(done.returncode)), (0, b""))
+    if done.returncode == 0:
+        counts.equal("what a program without std reads", subprocess.run([top + "/target/debug/bare"]).returncode, 42)
 
 
 def faults(counts):
@@ -94,6 +184,7 @@ def main():
     faults(counts)
     with tempfile.TemporaryDirectory(prefix="romtool-") as top:
         own_tests(top, archive, counts)
+        bare(top, archive, counts)
         done = cargo(["build", "--offline", "--example", "answers"], top, archive)
         answers = top + "/target/debug/examples/answers"
         if done.returncode:

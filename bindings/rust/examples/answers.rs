@@ -41,14 +41,14 @@ fn list(image: &Image<'_>, path: &[u8], out: &mut dyn Write) -> Result<(), Box<d
     if it.is_dir() {
         for entry in image.read_dir(whole)? {
             let below = [path, b"/", entry.name()].concat();
-            let metadata = entry.metadata();
+            let (node, metadata) = (entry.node(), entry.node().metadata());
             if metadata != image.symlink_metadata(&below)? || metadata.kind != entry.kind() {
                 return Err("an entry is not what its path leads to".into());
             }
-            if metadata.is_symlink() && entry.read_link()? != image.read_link(&below)? {
+            if metadata.is_symlink() && node.read_link()? != image.read_link(&below)? {
                 return Err("a link has another text than its path".into());
             }
-            if entry.metadata().is_dir() && entry.read_dir()?.count() != image.read_dir(&below)?.count() {
+            if metadata.is_dir() && node.read_dir()?.count() != image.read_dir(&below)?.count() {
                 return Err("an entry is opened otherwise than by its path".into());
             }
             list(image, &below, out)?;
@@ -86,12 +86,13 @@ fn answer(words: &[String]) -> Result<ExitCode, Box<dyn std::error::Error>> {
             writeln!(out, "fault {fault}")?;
             return Ok(ExitCode::FAILURE);
         }
-        (Err(CheckError::OutOfMemory), _) => return Ok(ExitCode::from(3)),
+        (Err(_), _) => return Ok(ExitCode::from(3)),
         (Ok(image), "check") => {
             let format = match image.format() {
                 Format::Romfs => "romfs",
                 Format::Cramfs => "cramfs",
                 Format::CramfsBigEndian => "cramfs-be",
+                _ => "unknown",
             };
             writeln!(out, "ok {format} {} {}", image.references(), image.depth())?;
         }

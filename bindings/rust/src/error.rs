@@ -1,6 +1,7 @@
 //! Why a call was refused.
 
-use std::fmt::{self, Display, Formatter};
+use core::fmt::{self, Display, Formatter};
+#[cfg(feature = "std")]
 use std::io;
 
 /// The reason why a call on a path or an open file failed.
@@ -79,21 +80,32 @@ impl Display for Error {
     }
 }
 
-impl std::error::Error for Error {}
+impl core::error::Error for Error {}
 
+/// On Linux, what the system has an error for becomes this error, with its kind: a directory, no directory, a name that is
+/// too long, and too many links. Other errors are inside the result.
+#[cfg(feature = "std")]
 impl From<Error> for io::Error {
     fn from(error: Error) -> io::Error {
-        let kind = match error {
-            Error::NotFound => io::ErrorKind::NotFound,
-            Error::Invalid | Error::NameTooLong => io::ErrorKind::InvalidInput,
-            _ => io::ErrorKind::Other,
+        let (number, kind) = match error {
+            Error::NotADirectory => (Some(20), io::ErrorKind::Other), // ENOTDIR
+            Error::IsADirectory => (Some(21), io::ErrorKind::Other),  // EISDIR
+            Error::NameTooLong => (Some(36), io::ErrorKind::InvalidInput), // ENAMETOOLONG
+            Error::TooManyLinks => (Some(40), io::ErrorKind::Other),  // ELOOP
+            Error::NotFound => (None, io::ErrorKind::NotFound),
+            Error::Invalid => (None, io::ErrorKind::InvalidInput),
+            _ => (None, io::ErrorKind::Other),
         };
-        io::Error::new(kind, error)
+        match number.filter(|_| cfg!(target_os = "linux")) {
+            Some(number) => io::Error::from_raw_os_error(number),
+            None => io::Error::new(kind, error),
+        }
     }
 }
 
 /// A fault of an image.
 #[derive(Clone, Copy, Debug, PartialEq, Eq)]
+#[non_exhaustive]
 pub struct Fault {
     /// Its number, which docs/FAULTS.md explains.
     pub number: u32,
@@ -153,6 +165,7 @@ impl Display for Fault {
 
 /// The reason why a check refused bytes as an image.
 #[derive(Clone, Copy, Debug, PartialEq, Eq)]
+#[non_exhaustive]
 pub enum CheckError {
     /// The bytes hold no image, and this is their least fault.
     Fault(Fault),
@@ -169,4 +182,4 @@ impl Display for CheckError {
     }
 }
 
-impl std::error::Error for CheckError {}
+impl core::error::Error for CheckError {}

@@ -2,12 +2,14 @@
 
 use crate::error::Error;
 use crate::image::{Image, Kind, Metadata};
+use crate::node::Node;
 use crate::raw;
+#[cfg(feature = "std")]
 use std::io::{self, BufRead, Read, Seek, SeekFrom};
 
 /// An open node of an image, with a position.
 #[derive(Clone, Debug)]
-struct Open<'a> {
+pub(crate) struct Open<'a> {
     image: Image<'a>,
     node: u32,
     position: u64,
@@ -20,11 +22,10 @@ impl<'a> Open<'a> {
         Open::of(image, error, &file)
     }
 
-    /// The node of an entry, whose number the library returned for this image.
-    fn at_entry(entry: &Entry<'a>) -> Result<Open<'a>, Error> {
-        let image = entry.image;
+    pub(crate) fn at_node(node: Node<'a>) -> Result<Open<'a>, Error> {
+        let image = node.image;
         let mut file = raw::File { image: image.raw(), error: 0, node: 0, position: 0 };
-        let error = unsafe { raw::romtool_open_node(&mut file, &image.raw(), entry.node) };
+        let error = unsafe { raw::romtool_open_node(&mut file, &image.raw(), node.number) };
         Open::of(image, error, &file)
     }
 
@@ -47,8 +48,8 @@ impl<'a> Open<'a> {
 
 /// An open regular file with a position. A clone has a position of its own.
 ///
-/// It is read by [`Read`], [`BufRead`] and [`Seek`]. Reading never fails. [`as_bytes`](File::as_bytes) returns
-/// the bytes in the image, without a copy.
+/// [`as_bytes`](File::as_bytes) returns the bytes in the image, without a copy, and [`next_bytes`](File::next_bytes) the
+/// next ones. With the feature `std` it is also read by `Read`, `BufRead` and `Seek`. Reading never fails.
 #[derive(Clone, Debug)]
 pub struct File<'a> {
     open: Open<'a>,
@@ -60,7 +61,7 @@ impl<'a> File<'a> {
         File::of(Open::at(image, path)?)
     }
 
-    fn of(open: Open<'a>) -> Result<File<'a>, Error> {
+    pub(crate) fn of(open: Open<'a>) -> Result<File<'a>, Error> {
         let metadata = open.metadata()?;
         if metadata.is_dir() {
             return Err(Error::IsADirectory);
@@ -107,21 +108,52 @@ impl<'a> File<'a> {
         self.open.position = file.position;
         self.open.image.place(&place).unwrap_or(&[])
     }
-}
 
-impl Read for File<'_> {
-    fn read(&mut self, buffer: &mut [u8]) -> io::Result<usize> {
+    /// Copies the next bytes to a buffer, also from several pieces, and returns their number, which is 0 at the end.
+    ///
+    /// # Errors
+    ///
+    /// None: the file is open.
+    pub fn copy_next(&mut self, buffer: &mut [u8]) -> Result<usize, Error> {
         let (mut file, mut count) = (self.open.raw(), 0);
         let len = buffer.len() as u64;
         let error = unsafe { raw::romtool_read(&mut file, buffer.as_mut_ptr(), len, &mut count) };
         self.open.position = file.position;
         match error {
             0 => Ok(count as usize),
-            _ => Err(Error::of(error).into()),
+            _ => Err(Error::of(error)),
+        }
+    }
+
+    /// Returns the position: the number of the next byte.
+    pub fn position(&self) -> u64 {
+        self.open.position
+    }
+
+    /// Sets the position, also past the end.
+    ///
+    /// # Errors
+    ///
+    /// None: the file is open.
+    pub fn set_position(&mut self, position: u64) -> Result<(), Error> {
+        let mut file = self.open.raw();
+        let error = unsafe { raw::romtool_seek(&mut file, position) };
+        self.open.position = file.position;
+        match error {
+            0 => Ok(()),
+            _ => Err(Error::of(error)),
         }
     }
 }
 
+#[cfg(feature = "std")]
+impl Read for File<'_> {
+    fn read(&mut self, buffer: &mut [u8]) -> io::Result<usize> {
+        Ok(self.copy_next(buffer)?)
+    }
+}
+
+#[cfg(feature = "std")]
 impl BufRead for File<'_> {
     fn fill_buf(&mut self) -> io::Result<&[u8]> {
         Ok(self.clone().next_bytes(u64::MAX))
@@ -132,6 +164,7 @@ impl BufRead for File<'_> {
     }
 }
 
+#[cfg(feature = "std")]
 impl Seek for File<'_> {
     fn seek(&mut self, to: SeekFrom) -> io::Result<u64> {
         let position = match to {
@@ -140,23 +173,16 @@ impl Seek for File<'_> {
             SeekFrom::Current(by) => self.open.position.checked_add_signed(by),
         };
         let position = position.ok_or(io::Error::from(io::ErrorKind::InvalidInput))?;
-        let mut file = self.open.raw();
-        let error = unsafe { raw::romtool_seek(&mut file, position) };
-        self.open.position = file.position;
-        if error == 0 {
-            Ok(self.open.position)
-        } else {
-            Err(Error::of(error).into())
-        }
+        self.set_position(position)?;
+        Ok(self.position())
     }
 }
 
 /// An entry of a directory.
 #[derive(Clone, Copy, Debug)]
 pub struct Entry<'a> {
-    image: Image<'a>,
     name: &'a [u8],
-    node: u32,
+    node: Node<'a>,
     kind: Kind,
 }
 
@@ -166,63 +192,14 @@ impl<'a> Entry<'a> {
         self.name
     }
 
-    /// Returns the number of the node, as [`Image::lookup`] returns it.
-    pub fn node(&self) -> u32 {
+    /// Returns the node. A symbolic link is not followed.
+    pub fn node(&self) -> Node<'a> {
         self.node
     }
 
     /// Returns the kind of the node. A symbolic link is not followed.
     pub fn kind(&self) -> Kind {
         self.kind
-    }
-
-    /// Returns the kind and numbers of the node, without a look-up. A symbolic link is not followed.
-    ///
-    /// # Panics
-    ///
-    /// Never: the image is open.
-    pub fn metadata(&self) -> Metadata {
-        Metadata::of(&unsafe { raw::romtool_stat_node(&self.image.raw(), self.node) }).expect("the image is open")
-    }
-
-    /// Returns the text of the symbolic link, as a part of the image, without a look-up.
-    ///
-    /// # Errors
-    ///
-    /// It is no symbolic link ([`Error::Invalid`]).
-    pub fn read_link(&self) -> Result<&'a [u8], Error> {
-        self.image.place(&unsafe { raw::romtool_readlink_node(&self.image.raw(), self.node) })
-    }
-
-    /// Returns the number of the node of the entry of this name in this directory. No entry is named `.` or `..`.
-    ///
-    /// # Errors
-    ///
-    /// It is not a directory ([`Error::NotADirectory`]), or has no such entry ([`Error::NotFound`]).
-    pub fn lookup(&self, name: &[u8]) -> Result<u32, Error> {
-        let found = unsafe { raw::romtool_lookup_at(&self.image.raw(), self.node, name.as_ptr(), name.len() as u64) };
-        match found.error {
-            0 => Ok(found.node),
-            error => Err(Error::of(error)),
-        }
-    }
-
-    /// Opens the entry as a regular file, without a look-up.
-    ///
-    /// # Errors
-    ///
-    /// It is a directory ([`Error::IsADirectory`]), or neither that nor a regular file.
-    pub fn open(&self) -> Result<File<'a>, Error> {
-        File::of(Open::at_entry(self)?)
-    }
-
-    /// Opens the entry as a directory, without a look-up.
-    ///
-    /// # Errors
-    ///
-    /// It is not a directory ([`Error::NotADirectory`]), or neither that nor a regular file.
-    pub fn read_dir(&self) -> Result<Dir<'a>, Error> {
-        Dir::of(Open::at_entry(self)?)
     }
 }
 
@@ -237,7 +214,7 @@ impl<'a> Dir<'a> {
         Dir::of(Open::at(image, path)?)
     }
 
-    fn of(open: Open<'a>) -> Result<Dir<'a>, Error> {
+    pub(crate) fn of(open: Open<'a>) -> Result<Dir<'a>, Error> {
         if open.metadata()?.is_dir() {
             Ok(Dir { open })
         } else {
@@ -260,7 +237,7 @@ impl<'a> Iterator for Dir<'a> {
 
     fn next(&mut self) -> Option<Entry<'a>> {
         let mut file = self.open.raw();
-        let mut entry = raw::Entry { name: std::ptr::null(), name_len: 0, node: 0, some: 0, kind: 0 };
+        let mut entry = raw::Entry { name: core::ptr::null(), name_len: 0, node: 0, some: 0, kind: 0 };
         let error = unsafe { raw::romtool_readdir(&mut file, &mut entry) };
         self.open.position = file.position;
         if error != 0 || entry.some == 0 {
@@ -270,8 +247,9 @@ impl<'a> Iterator for Dir<'a> {
         let bytes = self.open.image.as_bytes();
         let from = (entry.name as usize).wrapping_sub(bytes.as_ptr() as usize);
         let name = bytes.get(from..)?.get(..entry.name_len as usize)?;
-        Some(Entry { image: self.open.image, name, node: entry.node, kind: Kind::of(entry.kind) })
+        let node = Node { image: self.open.image, number: entry.node };
+        Some(Entry { name, node, kind: Kind::of(entry.kind) })
     }
 }
 
-impl std::iter::FusedIterator for Dir<'_> {}
+impl core::iter::FusedIterator for Dir<'_> {}

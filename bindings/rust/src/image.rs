@@ -2,10 +2,13 @@
 
 use crate::error::{CheckError, Error, Fault};
 use crate::file::{Dir, File};
+use crate::node::Node;
 use crate::raw;
+use core::fmt;
 
 /// The format of an image.
 #[derive(Clone, Copy, Debug, PartialEq, Eq)]
+#[non_exhaustive]
 pub enum Format {
     /// romfs.
     Romfs,
@@ -50,6 +53,7 @@ impl Kind {
 
 /// The kind and numbers of a file.
 #[derive(Clone, Copy, Debug, PartialEq, Eq)]
+#[non_exhaustive]
 pub struct Metadata {
     /// The number of the file's node.
     pub ino: u32,
@@ -102,8 +106,8 @@ pub struct Image<'a> {
     numbers: raw::Numbers,
 }
 
-impl std::fmt::Debug for Image<'_> {
-    fn fmt(&self, f: &mut std::fmt::Formatter<'_>) -> std::fmt::Result {
+impl fmt::Debug for Image<'_> {
+    fn fmt(&self, f: &mut fmt::Formatter<'_>) -> fmt::Result {
         f.debug_struct("Image").field("format", &self.format()).field("len", &self.bytes.len()).finish()
     }
 }
@@ -115,7 +119,7 @@ impl<'a> Image<'a> {
     ///
     /// The bytes hold no image, with the same fault each time; or memory was refused.
     pub fn check(bytes: &'a [u8]) -> Result<Image<'a>, CheckError> {
-        let mut made = raw::Image { data: std::ptr::null(), len: 0, numbers: raw::Numbers::default() };
+        let mut made = raw::Image { data: core::ptr::null(), len: 0, numbers: raw::Numbers::default() };
         let error = unsafe { raw::romtool_check(&mut made, bytes.as_ptr(), bytes.len() as u64) };
         match error {
             0 => Ok(Image { bytes, numbers: made.numbers }),
@@ -167,14 +171,19 @@ impl<'a> Image<'a> {
         self.numbers.depth
     }
 
-    /// Returns the number of the node to which a path leads. A symbolic link as the last component is followed.
+    /// Returns the root directory.
+    pub fn root(&self) -> Node<'a> {
+        Node { image: *self, number: self.numbers.root }
+    }
+
+    /// Returns the node to which a path leads. A symbolic link as the last component is followed.
     ///
     /// # Errors
     ///
     /// The path leads nowhere.
-    pub fn lookup(&self, path: impl AsRef<[u8]>) -> Result<u32, Error> {
+    pub fn lookup(&self, path: impl AsRef<[u8]>) -> Result<Node<'a>, Error> {
         let path = path.as_ref();
-        found(&unsafe { raw::romtool_lookup(&self.raw(), path.as_ptr(), path.len() as u64, true) })
+        Node::found(*self, unsafe { raw::romtool_lookup(&self.raw(), path.as_ptr(), path.len() as u64, true) })
     }
 
     /// Returns the same as [`lookup`](Image::lookup) if the look-up compares no more names than the budget, from which those
@@ -184,9 +193,11 @@ impl<'a> Image<'a> {
     ///
     /// More names are compared than the budget has ([`Error::OverBudget`]), of which nothing is left then; or the path leads
     /// nowhere.
-    pub fn lookup_within(&self, path: impl AsRef<[u8]>, budget: &mut u64) -> Result<u32, Error> {
+    pub fn lookup_within(&self, path: impl AsRef<[u8]>, budget: &mut u64) -> Result<Node<'a>, Error> {
         let (path, image) = (path.as_ref(), self.raw());
-        found(&unsafe { raw::romtool_lookup_within(&image, path.as_ptr(), path.len() as u64, true, budget) })
+        Node::found(*self, unsafe {
+            raw::romtool_lookup_within(&image, path.as_ptr(), path.len() as u64, true, budget)
+        })
     }
 
     /// Returns the kind and numbers of the node to which a path leads. A symbolic link as the last component is
@@ -238,13 +249,5 @@ impl<'a> Image<'a> {
     /// The path leads nowhere, or to no directory ([`Error::NotADirectory`]).
     pub fn read_dir(&self, path: impl AsRef<[u8]>) -> Result<Dir<'a>, Error> {
         Dir::open(*self, path.as_ref())
-    }
-}
-
-/// The node of an answer, or its error.
-fn found(answer: &raw::Node) -> Result<u32, Error> {
-    match answer.error {
-        0 => Ok(answer.node),
-        error => Err(Error::of(error)),
     }
 }

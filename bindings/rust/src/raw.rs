@@ -3,8 +3,6 @@
 //! The structs that the library reads are made for each call, from numbers that it returned for the same bytes. So no
 //! code outside this module can pass any others to it.
 
-use std::ffi::c_void;
-
 /// `struct romtool_image`.
 #[repr(C)]
 #[derive(Clone, Copy)]
@@ -79,9 +77,9 @@ pub(crate) struct Entry {
 
 // The layout of the library, whose structs the header states.
 const _: () = {
-    assert!(std::mem::size_of::<Image>() == 48 && std::mem::size_of::<File>() == 64);
-    assert!(std::mem::size_of::<Stat>() == 36 && std::mem::size_of::<Place>() == 16);
-    assert!(std::mem::size_of::<Entry>() == 32 && std::mem::size_of::<usize>() == 8);
+    assert!(core::mem::size_of::<Image>() == 48 && core::mem::size_of::<File>() == 64);
+    assert!(core::mem::size_of::<Stat>() == 36 && core::mem::size_of::<Place>() == 16);
+    assert!(core::mem::size_of::<Entry>() == 32 && core::mem::size_of::<usize>() == 8);
 };
 
 extern "C" {
@@ -107,53 +105,4 @@ extern "C" {
     pub(crate) fn romtool_read(file: *mut File, buffer: *mut u8, len: u64, count: *mut u64) -> u32;
     pub(crate) fn romtool_seek(file: *mut File, position: u64) -> u32;
     pub(crate) fn romtool_readdir(file: *mut File, entry: *mut Entry) -> u32;
-}
-
-// The three functions of `romtool_heap.h` over the C library that std links.
-extern "C" {
-    fn malloc(size: usize) -> *mut c_void;
-    fn realloc(at: *mut c_void, size: usize) -> *mut c_void;
-    fn free(at: *mut c_void);
-}
-
-/// `struct romtool_memory`.
-#[repr(C)]
-pub struct Memory {
-    given: u64,
-    at: *mut c_void,
-}
-
-fn answer(at: *mut c_void) -> Memory {
-    if at.is_null() {
-        Memory { given: 0, at: std::ptr::NonNull::dangling().as_ptr() }
-    } else {
-        Memory { given: 1, at }
-    }
-}
-
-/// Returns a block, for the library only.
-#[no_mangle]
-extern "C" fn rattle_alloc(size: usize, align: usize) -> Memory {
-    // malloc aligns to 16 on 64-bit machines
-    answer(if align <= 16 { unsafe { malloc(size.max(1)) } } else { std::ptr::null_mut() })
-}
-
-/// Changes the size of a block, for the library only.
-///
-/// # Safety
-///
-/// `at` is a block that was returned and not freed.
-#[no_mangle]
-unsafe extern "C" fn rattle_realloc(at: *mut c_void, _kept: usize, size: usize, _align: usize) -> Memory {
-    answer(unsafe { realloc(at, size.max(1)) })
-}
-
-/// Frees a block, for the library only.
-///
-/// # Safety
-///
-/// `at` is a block that was returned and not freed.
-#[no_mangle]
-unsafe extern "C" fn rattle_dealloc(at: *mut c_void) {
-    unsafe { free(at) };
 }

@@ -1,7 +1,7 @@
 //! The crate on one small image: what each call answers, and each error.
 
-use romtool::{CheckError, Error, Fault, Format, Image, Kind};
-use std::io::{BufRead, Read, Seek, SeekFrom};
+use romtool::{CheckError, Error, Fault, Format, Image, Kind, Node};
+use std::io::{BufRead, ErrorKind, Read, Seek, SeekFrom};
 
 const SMALL: &[u8] = include_bytes!("small.romfs");
 
@@ -23,12 +23,12 @@ fn what_an_image_is() {
 fn what_paths_lead_to() {
     let image = image();
     let root = image.metadata("/").unwrap();
-    assert!(root.is_dir() && root.ino == image.lookup("/").unwrap());
+    assert!(root.is_dir() && root.ino == image.lookup("/").unwrap().offset());
     let null = image.metadata("/null").unwrap();
     assert_eq!((null.kind, null.major, null.minor, null.mode), (Kind::Character, 1, 3, 0o600));
     assert!(image.symlink_metadata("/message").unwrap().is_symlink());
     let led = image.metadata("/message").unwrap();
-    assert!(led.is_file() && led.size == 6 && led.ino == image.lookup("/etc/motd").unwrap());
+    assert!(led.is_file() && led.size == 6 && led.ino == image.lookup("/etc/motd").unwrap().offset());
     assert_eq!(image.read_link("/message"), Ok(b"etc/motd".as_slice()));
 }
 
@@ -51,7 +51,7 @@ fn errors_of_paths() {
     assert_eq!((image.lookup_within("/none", &mut budget), budget), (Err(Error::NotFound), 4));
     assert_eq!(image.read_link("/etc"), Err(Error::Invalid));
     let entries: Vec<_> = image.read_dir("/").unwrap().collect();
-    let (etc, message) = (entries[0], entries[1]);
+    let (etc, message) = (entries[0].node(), entries[1].node());
     assert_eq!(etc.lookup(b"motd"), image.lookup("/etc/motd"));
     assert_eq!((etc.lookup(b"none"), etc.lookup(b".")), (Err(Error::NotFound), Err(Error::NotFound)));
     assert_eq!(message.lookup(b"motd"), Err(Error::NotADirectory));
@@ -107,9 +107,9 @@ fn entries() {
     let mut dir = image.read_dir("/etc").unwrap();
     let first = dir.next().unwrap();
     assert_eq!((first.name(), Ok(first.node())), (b"motd".as_slice(), image.lookup("/etc/motd")));
-    assert_eq!(first.metadata(), image.metadata("/etc/motd").unwrap());
-    assert_eq!(first.open().unwrap().as_bytes(), image.open("/etc/motd").unwrap().as_bytes());
-    assert_eq!(first.read_dir().map(|_| ()), Err(Error::NotADirectory));
+    assert_eq!(first.node().metadata(), image.metadata("/etc/motd").unwrap());
+    assert_eq!(first.node().open().unwrap().as_bytes(), image.open("/etc/motd").unwrap().as_bytes());
+    assert_eq!(first.node().read_dir().map(|_| ()), Err(Error::NotADirectory));
     assert_eq!(dir.clone().count(), 1);
     assert_eq!(dir.next().unwrap().name(), b"empty");
     assert!(dir.next().is_none() && dir.next().is_none());
@@ -122,7 +122,7 @@ fn refused_images() {
         Err(CheckError::Fault(fault)) => fault,
         other => panic!("{other:?}"),
     };
-    assert_eq!(fault(b""), Fault { number: 2, at: 0 });
+    assert_eq!((fault(b"").number, fault(b"").at), (2, 0));
     assert_eq!(fault(&[0; 100]).name(), "Magic");
     let mut changed = SMALL.to_vec();
     changed[50] ^= 1;
@@ -130,8 +130,51 @@ fn refused_images() {
     for len in 0..SMALL.len() {
         assert!(matches!(Image::check(&SMALL[..len]), Err(CheckError::Fault(_))), "{len} bytes");
     }
-    assert_eq!(Fault { number: 10, at: 0 }.name(), "Unknown");
-    assert_eq!(Fault { number: u32::MAX, at: 0 }.name(), "Unknown");
+    let named = |number| {
+        let mut other: Fault = fault(b"");
+        other.number = number;
+        other.name()
+    };
+    assert_eq!((named(10), named(u32::MAX), named(12)), ("Unknown", "Unknown", "HeaderSum"));
+}
+
+#[test]
+fn nodes() {
+    let image = image();
+    let root: Node = image.root();
+    assert_eq!(Ok(root), image.lookup("/"));
+    let (etc, link) = (root.lookup("etc").unwrap(), root.lookup("message").unwrap());
+    let motd = etc.lookup(b"motd").unwrap();
+    assert_eq!((Ok(motd), Ok(etc)), (image.lookup("/message"), image.lookup("/etc")));
+    assert!(motd != etc && motd != link && format!("{motd:?}") == format!("Node({})", motd.offset()));
+    assert_eq!((motd.metadata(), motd.offset()), (image.metadata("/etc/motd").unwrap(), motd.metadata().ino));
+    assert_eq!(motd.open().unwrap().as_bytes(), Ok(b"hello\n".as_slice()));
+    assert_eq!((link.read_link(), motd.read_link()), (Ok(b"etc/motd".as_slice()), Err(Error::Invalid)));
+    assert_eq!((link.open().unwrap_err(), etc.open().unwrap_err()), (Error::IsASpecialFile, Error::IsADirectory));
+    assert_eq!(etc.read_dir().unwrap().map(|it| it.name()).collect::<Vec<_>>(), [b"motd".as_slice(), b"empty"]);
+    // the same place in other bytes is another node, and a node outlives the image that it was looked up in
+    let copied = SMALL.to_vec();
+    let other = Image::check(&copied).unwrap().lookup("/etc/motd").unwrap();
+    assert!(other != motd && other.offset() == motd.offset() && other.metadata() == motd.metadata());
+}
+
+#[test]
+fn errors_of_the_system() {
+    let kind = |error: Error| std::io::Error::from(error).kind();
+    for (error, name) in [
+        (Error::NotFound, "NotFound"),
+        (Error::NotADirectory, "NotADirectory"),
+        (Error::IsADirectory, "IsADirectory"),
+        (Error::Invalid, "InvalidInput"),
+        (Error::TooManyLinks, "FilesystemLoop"),
+        (Error::NameTooLong, "InvalidFilename"),
+        (Error::OverBudget, "Other"),
+    ] {
+        assert_eq!(format!("{:?}", kind(error)), name);
+    }
+    let error = std::io::Error::from(Error::OverBudget);
+    assert_eq!(error.get_ref().unwrap().downcast_ref::<Error>(), Some(&Error::OverBudget));
+    assert_eq!((kind(Error::InPieces), kind(Error::Other(9))), (ErrorKind::Other, ErrorKind::Other));
 }
 
 #[test]
