@@ -151,7 +151,8 @@ pub const WHITEOUT: &str =
 pub const OUT_OF_ANOTHER: &str = "another user made it, in a directory like /tmp; remove it first";
 
 /// An image is larger than the environment allows.
-pub const IMAGE_TOO_LONG: &str = "to read it takes more bytes than ROMTOOL_MAX_SIZE says";
+pub const IMAGE_TOO_LONG: &str =
+    "to read it takes more bytes than --max-size or ROMTOOL_MAX_SIZE says";
 
 /// The environment does not say how large images may be.
 pub const NO_MAX_SIZE: &str =
@@ -174,7 +175,7 @@ pub const MANIFEST_NOT_TAKEN: &str = "not all of the manifest could be written t
 pub const LONG_NAME: &str = "the name of a volume has at most 255 bytes";
 
 /// A file of devices has a line of another kind.
-pub const DEVICE_WORD: &str = "a file of devices has only dir, slink, nod, pipe and sock";
+pub const DEVICE_WORD: &str = "a file of devices has only dir, slink, nod, pipe, sock and mode";
 
 /// The path of a line in a file of devices exists already.
 pub const DEVICE_EXISTS: &str =
@@ -182,6 +183,30 @@ pub const DEVICE_EXISTS: &str =
 
 /// The path of a line in a file of devices is in no directory.
 pub const DEVICE_NO_PARENT: &str = "no DIR and no dir line has the parent directory of the path";
+
+/// The path of a file in an image does not begin with a slash.
+pub const NO_SLASH: &str = "a path in an image begins with a slash";
+
+/// No file has the path of a line that sets attributes.
+pub const NO_SUCH_FILE: &str = "no file has this path, so its mode and owner cannot be set";
+
+/// A line of a table of devices has too few or too many words, or a path that is none.
+pub const TABLE_LINE: &str =
+    "a line has PATH TYPE MODE UID GID MAJOR MINOR START INC COUNT; PATH begins with a slash";
+
+/// The type of a line of a table of devices is none.
+pub const TABLE_TYPE: &str = "TYPE is f, F, d, r, c, b or p";
+
+/// A number of a line of a table of devices is none.
+pub const TABLE_NUMBER: &str =
+    "MODE is octal or -1; UID and GID are numbers or root, the others numbers or -";
+
+/// A line of a table of devices makes too many devices.
+pub const TABLE_COUNT: &str = "COUNT is at most 65536";
+
+/// A line of a table of devices is about a file that is not there, or of another kind.
+pub const TABLE_FILE: &str =
+    "no file has this path, or a directory and another kind of file have it";
 
 /// A path or a text in a file of devices is no UTF-8.
 pub const DEVICE_NO_TEXT: &str = "a path or the text of a link has to be UTF-8 here";

@@ -1,0 +1,41 @@
+//! The files of the system that a command reads and replaces: their names, owners and states, the
+//! sources of an image, and the file that an image is written to.
+//!
+//! Proved: a file is replaced whole or not at all (`atomic_file`, `image_file`), of the account of
+//! calls that `beside.rt` keeps; the sources have the bytes that the system's reads returned
+//! (`file_sources`), of what `disk.rt` returns; and which directory and which part a name means
+//! (`specs/Names.antt`).
+//!
+//! Trusted by reading: each method of `Directory` in `beside.rt` makes the calls of the system that
+//! it notes, and notes what they returned; the methods of `Opener` in `disk.rt` open the file of
+//! the name, and pass on what the system read. What the system says of a file is known by no proof:
+//! functions that only return that have no clause.
+#![tactic(auto)]
+
+mod beside;
+mod closing;
+mod device;
+mod directories;
+mod disk;
+mod imaging;
+mod mounted;
+mod names;
+pub mod own_output;
+mod owner;
+mod parts;
+mod progress;
+mod stamp;
+mod target;
+
+pub use beside::{KeepError, Others, Writer};
+pub use closing::{close, settle_output};
+pub use device::device_of;
+pub use directories::{base, directory_at, is_foreign, opened_name, state_of};
+pub use disk::{Disk, Opened, first_changed, stamp_unlinked};
+pub use imaging::{Late, Unchanged};
+pub use names::{behind_links, directory_of, name_in_directory};
+pub use owner::{STICKY, WRITABLE_BY_OTHERS};
+pub use parts::part_path;
+pub use progress::Progress;
+pub use stamp::{Identity, Stamp, has_changed, let_rest, open_unchanged, stamp_of};
+pub use target::{FillError, Target, is_part_of};

@@ -1,0 +1,390 @@
+//! The target of an image. It gets its name only after all of it is written.
+ghost use Rattle.std.specs.Prelude.{◌≡◌, ◌≤◌, ◌%◌, [], length};
+ghost use Rattle.atomic_file.specs.Accounts.{log_of, room_of};
+
+use crate::beside::{Beside, KeepError, NAMES, Others, PartRights, System, Writer, is_of_its_kind};
+use crate::closing::close;
+use crate::mounted::is_mounted;
+use crate::names::{behind_links, directory_of, name_in_directory};
+use crate::owner::{STICKY, WRITABLE_BY_OTHERS};
+use crate::parts::is_part_name;
+use crate::stamp::Identity;
+use atomic_file::{Begun, Fill, Unbegun, Unfinished, abandon, begin, keep};
+use image_file::{LastCheck, PlanImage, Unwritten, put};
+use image_stream::Sources;
+use program_streams::{Held, Remembering};
+use rom_fields::{ByteWrite, Failed, Plain};
+use sentences::reasons::{HUNDRED_PARTS, MOUNTED, OUT_OF_ANOTHER, REPLACED};
+use std::fs::{File, Metadata, OpenFile, OpenOptions};
+use std::marker::Model;
+use std::os::unix::fs::MetadataExt;
+use std::{fs, io};
+
+/// The permissions of a file that nobody else is to read while it is written.
+const PRIVATE: u32 = 0o600;
+
+/// The permissions of a new file, before the process's mask is applied.
+const USUAL: u32 = 0o666;
+
+/// The directory of the process, which belongs to its user.
+const PROCESS: &str = "/proc/self";
+
+/// A part that was made for a name, under its own name.
+#[derive(Drop)]
+struct Ready {
+    beside: Beside,
+    name: u32,
+}
+
+impl Model for Ready {
+    ghost use Rattle.std.specs.Prelude.{◌≤◌, []};
+    ghost use Rattle.atomic_file.specs.Accounts.{log_of, room_of};
+    ghost use Rattle.atomic_file.specs.Moments.{IsBegun};
+    ghost use Rattle.system_files.specs.Parts.{part_names};
+
+    ghost Value = { Unit {0} };
+
+    ghost view = { λ _. tt };
+
+    ghost invariant = { λ r. IsBegun part_names r.name [] (log_of r.beside.account)
+        × (4 ≤ room_of r.beside.account) };
+}
+
+/// The target of an image: a new file beside the one of its name; or the file with its name, if
+/// that is not regular.
+#[derive(Drop)]
+pub struct Target {
+    writer: Option<Writer>,
+    // which file that is, if it is not a part
+    straight: Option<Identity>,
+    ready: Option<Ready>,
+}
+
+/// The reason why a target was not filled and kept.
+#[derive(Drop)]
+pub enum FillError<E: Drop> {
+    /// The source or the writer failed; and the reason that the system gave to the writer.
+    NotWritten(E, Option<io::Error>),
+    /// It did not get its name.
+    NotKept(KeepError),
+}
+
+fn to_write(rt: &HostRuntime, name: &str) -> io::Result<File> {
+    OpenOptions::new().write(true).open(rt, name)
+}
+
+/// Opens the directory of a file, if this process may list it.
+fn opened_directory(rt: &HostRuntime, name: &str) -> io::Result<Option<File>> {
+    match File::open(rt, directory_of(name)) {
+        Ok(directory) => Ok(Some(directory)),
+        Err(e) if e.kind() == io::ErrorKind::PermissionDenied => Ok(None),
+        Err(e) => Err(e),
+    }
+}
+
+/// Returns why the system refused a part.
+fn refusal(beside: Beside, e: Unbegun) -> io::Error {
+    match (e, beside.error()) {
+        (Unbegun::Refused, Some(KeepError::Refused(e))) => e,
+        _ => io::Error::new(io::ErrorKind::AlreadyExists, HUNDRED_PARTS),
+    }
+}
+
+/// Makes a part.
+fn target_beside(rt: &HostRuntime, beside: Beside) -> io::Result<Target>
+    requires log { log_of beside.account ≡ [] }
+    requires room { 304 ≤ room_of beside.account }
+{
+    let mut system = System { rt, beside };
+    let begun = match begin(&mut system, NAMES) {
+        Ok(begun) => begun,
+        Err(e) => return Err(refusal(system.beside, e)),
+    };
+    let Begun { name, part } = begun;
+    if system.beside.is_refused() {
+        abandon(&mut system, name);
+        return Err(refusal(system.beside, Unbegun::Refused));
+    }
+    let ready = Ready {
+        beside: system.beside,
+        name,
+    };
+    Ok(Target {
+        writer: Some(part),
+        straight: None,
+        ready: Some(ready),
+    })
+}
+
+/// Whether all users may make files in a directory with these attributes, and only remove their
+/// own.
+fn is_shared(directory: &Metadata) -> bool {
+    directory.mode() & STICKY != 0 && directory.mode() & WRITABLE_BY_OTHERS != 0
+}
+
+/// Refuses to replace a file that another user made in a directory where all users may make files:
+/// the new file would be that user's. The owner of the directory and the user of the process are
+/// trusted.
+fn check_maker(rt: &HostRuntime, name: &str, found: &Metadata) -> io::Result<()> {
+    let directory = fs::metadata(rt, directory_of(name))?;
+    if !is_shared(&directory) || found.uid() == directory.uid() {
+        return Ok(());
+    }
+    match fs::metadata(rt, PROCESS) {
+        Ok(process) if process.uid() == found.uid() => Ok(()),
+        _ => Err(io::Error::new(io::ErrorKind::PermissionDenied, OUT_OF_ANOTHER)),
+    }
+}
+
+/// Makes a new file beside a regular file that can be written, with its owner and permissions.
+fn in_place_of(rt: &HostRuntime, name: &str, inputs: Vec<Identity>) -> io::Result<Target> {
+    let found = to_write(rt, name)?.metadata()?;
+    let whole = behind_links(rt, name)?;
+    if Identity::of(&fs::symlink_metadata(rt, &whole)?) != Identity::of(&found) {
+        return Err(io::Error::new(io::ErrorKind::NotFound, REPLACED));
+    }
+    let directory = opened_directory(rt, &whole)?;
+    check_maker(rt, &whole, &found)?;
+    let rights = PartRights {
+        mode: PRIVATE,
+        like: Some(found),
+    };
+    target_beside(rt, Beside::new(rt, &whole, directory, rights, inputs)?)
+}
+
+/// Makes a new file beside a name that nothing has, not even a link that leads nowhere.
+fn in_a_new_place(
+    rt: &HostRuntime,
+    name: &str,
+    inputs: Vec<Identity>,
+    missing: io::Error,
+) -> io::Result<Target> {
+    match fs::symlink_metadata(rt, name) {
+        Ok(_) => Err(missing),
+        Err(e) if e.kind() == io::ErrorKind::NotFound => {
+            let directory = opened_directory(rt, name)?;
+            let rights = PartRights {
+                mode: USUAL,
+                like: None,
+            };
+            target_beside(rt, Beside::new(rt, name, directory, rights, inputs)?)
+        }
+        Err(e) => Err(e),
+    }
+}
+
+/// Opens the file with this name, which is not regular.
+fn straight(rt: &HostRuntime, name: &str) -> io::Result<Target> {
+    let file = to_write(rt, name)?;
+    let straight = match file.metadata() {
+        Ok(found) => Some(Identity::of(&found)),
+        Err(_) => None,
+    };
+    Ok(Target {
+        writer: Some(Plain::new(Remembering::new(Held::new(rt.alloc(), file)))),
+        straight,
+        ready: None,
+    })
+}
+
+/// Whether both names are in one directory.
+fn are_in_one_directory(rt: &HostRuntime, one: &str, another: &str) -> bool {
+    let (first, second) = (directory_of(one), directory_of(another));
+    match (fs::metadata(rt, first), fs::metadata(rt, second)) {
+        (Ok(here), Ok(there)) => Identity::of(&here) == Identity::of(&there),
+        _ => first == second,
+    }
+}
+
+/// Whether both are to get one name in one directory.
+fn are_for_one_name(rt: &HostRuntime, one: &str, another: &str) -> bool {
+    name_in_directory(one) == name_in_directory(another) && are_in_one_directory(rt, one, another)
+}
+
+/// Returns whether the first name is one that a part of the second one may have.
+pub fn is_part_of(rt: &HostRuntime, part: &str, whole: &str) -> bool {
+    is_part_name(part, whole) && are_in_one_directory(rt, part, whole)
+}
+
+/// Synchronizes a file that is not regular, if that can be done, and closes it.
+fn keep_straight(rt: &HostRuntime, writer: Writer) -> Result<(), KeepError> {
+    let (held, _) = writer.into_inner().into_parts();
+    let (file, _) = held.into_parts();
+    match file.sync_all() {
+        Err(e) if !is_of_its_kind(&e) => return Err(KeepError::Refused(e)),
+        _ => {}
+    }
+    match close(rt, file) {
+        Ok(()) => Ok(()),
+        Err(e) => Err(KeepError::Refused(e)),
+    }
+}
+
+/// Returns why a directory refused to keep a part.
+fn reason(beside: Beside) -> KeepError {
+    match beside.error() {
+        Some(e) => e,
+        None => KeepError::Changed,
+    }
+}
+
+impl Ready {
+    /// Gives the part its name.
+    fn keep(self, rt: &HostRuntime, part: Writer) -> Result<(), KeepError> {
+        let Ready { beside, name } = self;
+        let mut system = System { rt, beside };
+        match keep(&mut system, NAMES, Begun { name, part }) {
+            Ok(_) => Ok(()),
+            Err(Failed) => Err(reason(system.beside)),
+        }
+    }
+
+    /// Fills the part with an image, and gives it its name.
+    fn put<S: Sources, K: LastCheck>(
+        self,
+        rt: &HostRuntime,
+        part: Writer,
+        image: &mut PlanImage<'_, S, K>,
+    ) -> Result<(), FillError<Unwritten<K::Error>>>
+        requires files { S.files image.old.sources ≡ length image.old.plan.now.sizes }
+        requires buffer { 4096 ≤ length image.old.buffer.now }
+        requires words { length image.old.buffer.now % 4 ≡ 0 }
+    {
+        let Ready { beside, name } = self;
+        let mut system = System { rt, beside };
+        match put(&mut system, NAMES, Begun { name, part }, image) {
+            Ok(_) => Ok(()),
+            Err(Unfinished::NotWritten(e, part)) => {
+                Err(FillError::NotWritten(e, part.into_inner().error()))
+            }
+            Err(Unfinished::NotKept) => Err(FillError::NotKept(reason(system.beside))),
+        }
+    }
+
+    /// Removes the part.
+    fn abandon(self, rt: &HostRuntime) {
+        let Ready { beside, name } = self;
+        let mut system = System { rt, beside };
+        abandon(&mut system, name);
+    }
+}
+
+impl Target {
+    /// Opens the target of an image of this name. A file that has this name stays as it is, and so
+    /// do the inputs, even if they have the names of parts.
+    ///
+    /// # Errors
+    ///
+    /// The operating system's error: for a directory, for a file that cannot be written, for a link
+    /// that leads nowhere, or if no file can be made beside it; `ResourceBusy` for a block device
+    /// that is mounted.
+    pub fn open(rt: &HostRuntime, name: &str, inputs: Vec<Identity>) -> io::Result<Target> {
+        match fs::metadata(rt, name) {
+            Ok(found) if found.is_file() => in_place_of(rt, name, inputs),
+            Ok(found) if is_mounted(rt, &found) => {
+                Err(io::Error::new(io::ErrorKind::ResourceBusy, MOUNTED))
+            }
+            Ok(_) => straight(rt, name),
+            Err(e) if e.kind() == io::ErrorKind::NotFound => in_a_new_place(rt, name, inputs, e),
+            Err(e) => Err(e),
+        }
+    }
+
+    /// Returns the name that it is to have, and what was found of other builds beside it.
+    pub fn others(&self) -> Option<(&str, Others)> {
+        match &self.ready {
+            Some(ready) => Some((ready.beside.whole(), ready.beside.others())),
+            None => None,
+        }
+    }
+
+    /// Returns whether both are written to one file, or are to get one name in one directory.
+    pub fn has_place_of(&self, rt: &HostRuntime, other: &Target) -> bool {
+        match (&self.ready, &other.ready) {
+            (Some(one), Some(another)) => {
+                are_for_one_name(rt, one.beside.whole(), another.beside.whole())
+            }
+            (None, None) => self.straight.is_some() && self.straight == other.straight,
+            _ => false,
+        }
+    }
+
+    /// Takes out the writer to it, which has its only descriptor. If there were another one, its
+    /// close would report what the file system lost, and the close of this one would not.
+    pub fn take_writer(&mut self) -> Option<Writer> {
+        self.writer.take()
+    }
+
+    /// Puts the writer back, after all is written and flushed.
+    pub fn put_back(&mut self, writer: Writer) {
+        self.writer = Some(writer);
+    }
+
+    /// Gives what was written its name. The file is synchronized, closed and renamed, in this
+    /// order; then the directory is synchronized.
+    ///
+    /// # Errors
+    ///
+    /// `Changed`, or that of the system. The name then leads to what it led to before, except if
+    /// only the directory could not be synchronized: then it leads to what was written.
+    pub fn keep(self, rt: &HostRuntime) -> Result<(), KeepError> {
+        let Target { writer, ready, .. } = self;
+        match (writer, ready) {
+            (Some(writer), Some(ready)) => ready.keep(rt, writer),
+            (Some(writer), None) => keep_straight(rt, writer),
+            (None, _) => Err(KeepError::Changed),
+        }
+    }
+
+    /// Fills it with an image, and gives it its name as `keep` does.
+    ///
+    /// # Errors
+    ///
+    /// Those of the image and of `keep`. The name then leads to what it led to before, except if
+    /// only the directory could not be synchronized. A file that is not regular has what was
+    /// written.
+    pub fn fill<S: Sources, K: LastCheck>(
+        self,
+        rt: &HostRuntime,
+        image: &mut PlanImage<'_, S, K>,
+    ) -> Result<(), FillError<Unwritten<K::Error>>>
+        requires files { S.files image.old.sources ≡ length image.old.plan.now.sizes }
+        requires buffer { 4096 ≤ length image.old.buffer.now }
+        requires words { length image.old.buffer.now % 4 ≡ 0 }
+    {
+        let Target { writer, ready, .. } = self;
+        match (writer, ready) {
+            (Some(writer), Some(ready)) => ready.put(rt, writer, image),
+            (Some(writer), None) => fill_straight(rt, writer, image),
+            (None, _) => Err(FillError::NotKept(KeepError::Changed)),
+        }
+    }
+
+    /// Removes what was written, if it is a part.
+    pub fn abandon(self, rt: &HostRuntime) {
+        let Target { ready, .. } = self;
+        if let Some(ready) = ready {
+            ready.abandon(rt);
+        }
+    }
+}
+
+/// Fills a file that is not regular with an image, synchronizes it, if that can be done, and closes
+/// it.
+fn fill_straight<S: Sources, K: LastCheck>(
+    rt: &HostRuntime,
+    mut writer: Writer,
+    image: &mut PlanImage<'_, S, K>,
+) -> Result<(), FillError<Unwritten<K::Error>>>
+    requires files { S.files image.old.sources ≡ length image.old.plan.now.sizes }
+    requires buffer { 4096 ≤ length image.old.buffer.now }
+    requires words { length image.old.buffer.now % 4 ≡ 0 }
+{
+    if let Err(e) = image.fill(&mut writer) {
+        return Err(FillError::NotWritten(e, writer.into_inner().error()));
+    }
+    match keep_straight(rt, writer) {
+        Ok(()) => Ok(()),
+        Err(e) => Err(FillError::NotKept(e)),
+    }
+}

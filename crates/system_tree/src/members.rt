@@ -1,0 +1,111 @@
+//! The members of an image that is extracted, and the path of each in the directory.
+ghost use Rattle.std.specs.Prelude.{◌≡◌, ◌<◌, ◌++◌, codes, length, string_bytes, IfOk};
+ghost use Rattle.image_check.specs.Any.{any_view};
+ghost use Rattle.image_extract.specs.Members.{members_in};
+ghost use Rattle.tree_extract.specs.Members.{path_at};
+
+use crate::making::Syncing;
+use arrayvec::ArrayVec;
+use image_check::AnyImage;
+use image_extract::ImageTree;
+use image_manifest::PATH_MAX;
+use sentences::reasons::{LINK_UNFIT, NAME_UNFIT, NO_TEXT};
+use std::alloc::AllocError;
+use std::{io, str};
+use tree_extract::{Kind, Tree};
+
+/// The most bytes of a name in Linux.
+const LONGEST_NAME: usize = 255;
+
+/// The most bytes of a path, or of a link's text, in Linux.
+const LONGEST_PATH: usize = 4095;
+
+/// Returns the text of a link, if the system accepts it.
+///
+/// # Errors
+///
+/// `InvalidFilename` if it is empty or too long, has a zero byte, or is no UTF-8.
+pub fn accepted_text(text: &[u8]) -> io::Result<&str>
+    ensures { IfOk result (λ s. s.now ≡ text.now) }
+{
+    if text.is_empty() || text.len() > LONGEST_PATH || text.contains(&0) {
+        return Err(io::Error::new(io::ErrorKind::InvalidFilename, LINK_UNFIT));
+    }
+    match str::from_utf8(text) {
+        Ok(text) => Ok(text),
+        Err(_) => Err(io::Error::new(io::ErrorKind::InvalidFilename, LINK_UNFIT)),
+    }
+}
+
+/// The members of an image that are made in the current directory.
+#[derive(Clone, Copy)]
+pub struct Members<'a> {
+    pub rt: &'a HostRuntime,
+    pub tree: &'a ImageTree<'a, 'a, AnyImage<'a>>,
+    /// Whether what is made is synced to the disk.
+    pub syncing: Syncing,
+}
+
+impl Members<'_> {
+    /// Returns the path of the member at an index, after that of a directory.
+    ///
+    /// # Errors
+    ///
+    /// `AllocError` if memory was refused.
+    pub fn named_in(&self, directory: &str, index: usize) -> Result<Vec<u8>, AllocError>
+        requires { index < length (members_in self.now.tree.now.giving
+            (any_view self.now.tree.now.image.now)) }
+        ensures { IfOk result (λ v. v.items ≡ directory.now
+            ++ path_at (members_in self.now.tree.now.giving
+            (any_view self.now.tree.now.image.now)) index) }
+    {
+        let mut path: ArrayVec<u8, PATH_MAX> = ArrayVec::new();
+        self.tree.path(index, &mut path);
+        let mut name = Vec::new(self.rt.alloc());
+        name.extend_from_slice(directory.as_bytes())?;
+        name.extend_from_slice(path.as_slice())?;
+        Ok(name)
+    }
+
+    /// Returns the path at which the member at an index is made: from the current directory on,
+    /// which is the one that the image is extracted into.
+    ///
+    /// # Errors
+    ///
+    /// `OutOfMemory`; `InvalidFilename` if the path is no UTF-8.
+    pub fn place(&self, index: usize) -> io::Result<String>
+        requires { index < length (members_in self.now.tree.now.giving
+            (any_view self.now.tree.now.image.now)) }
+        ensures { IfOk result (λ p. string_bytes p ≡ codes "."
+            ++ path_at (members_in self.now.tree.now.giving
+            (any_view self.now.tree.now.image.now)) index) }
+    {
+        match String::from_utf8(self.named_in(".", index)?) {
+            Ok(place) => Ok(place),
+            Err(_) => Err(io::Error::new(io::ErrorKind::InvalidFilename, NO_TEXT)),
+        }
+    }
+
+    /// Checks that the system accepts the path of the member at an index, and a link's text, and
+    /// that the path after that of a directory of this length fits a manifest.
+    ///
+    /// # Errors
+    ///
+    /// `OutOfMemory`; `InvalidFilename` otherwise.
+    pub fn try_name(&self, index: usize, before: usize) -> io::Result<()>
+        requires { index < length (members_in self.now.tree.now.giving
+            (any_view self.now.tree.now.image.now)) }
+    {
+        let place = self.place(index)?;
+        let longest = place.split('/').map(str::len).max().unwrap_or(0);
+        // in the manifest, the path follows that of the directory
+        let whole = place.len().saturating_add(before);
+        if longest > LONGEST_NAME || whole > LONGEST_PATH + 1 {
+            return Err(io::Error::new(io::ErrorKind::InvalidFilename, NAME_UNFIT));
+        }
+        match self.tree.kind(index) {
+            Kind::Symlink => accepted_text(self.tree.link_text(index)).map(|_| ()),
+            _ => Ok(()),
+        }
+    }
+}
