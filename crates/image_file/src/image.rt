@@ -2,11 +2,12 @@
 ghost use Rattle.std.specs.Prelude.{◌≡◌, ◌≤◌, ◌%◌, length, OnOk, IfErr};
 ghost use Rattle.image_file.specs.Images.{IsCheckedImage, IsImageFault};
 
+use crate::padding::{Padding, write_padding};
 use atomic_file::Fill;
 use image_build::{StreamError, stream_through};
 use image_stream::Sources;
 use plan_types::Plan;
-use rom_fields::ByteWrite;
+use rom_fields::{ByteWrite, Failed};
 
 /// A check that is made after all is written, for example that no source changed.
 pub trait LastCheck {
@@ -34,15 +35,18 @@ pub trait LastCheck {
 pub enum Unwritten<E: Drop> {
     /// The stream failed.
     Stream(StreamError),
+    /// The bytes after the image could not be written.
+    Padded,
     /// The last check failed.
     Late(E),
 }
 
-/// The image of a plan, with these sources, a check that is made after all is written, and a buffer
-/// of at least 4,096 bytes, whose length is a multiple of 4.
+/// The image of a plan, with these sources, the bytes that follow it, a check that is made after
+/// all is written, and a buffer of at least 4,096 bytes, whose length is a multiple of 4.
 pub struct PlanImage<'a, S: Sources, K: LastCheck> {
     pub plan: &'a Plan,
     pub sources: S,
+    pub padding: Padding,
     pub last: K,
     pub buffer: &'a mut [u8],
 }
@@ -50,8 +54,8 @@ pub struct PlanImage<'a, S: Sources, K: LastCheck> {
 impl<'a, S: Sources, K: LastCheck> Fill for PlanImage<'a, S, K> {
     type Error = Unwritten<K::Error>;
 
-    ghost writes = { λ s t old new. IsCheckedImage (K.passed t.last) (S.known s.sources)
-        (S.IsLog s.sources) (S.IsLog t.sources) s.plan.now old new };
+    ghost writes = { λ s t old new. IsCheckedImage (K.passed t.last) s.padding
+        (S.known s.sources) (S.IsLog s.sources) (S.IsLog t.sources) s.plan.now old new };
 
     ghost fails = { λ s t old new e. IsImageFault (K.fails s.last t.last) (S.known s.sources)
         s.plan.now (S.reads s.sources) (S.reads t.sources) old new e };
@@ -63,6 +67,10 @@ impl<'a, S: Sources, K: LastCheck> Fill for PlanImage<'a, S, K> {
         match stream_through(self.plan, &mut self.sources, w, self.buffer) {
             Ok(()) => {}
             Err(e) => return Err(Unwritten::Stream(e)),
+        }
+        match write_padding(w, self.padding) {
+            Ok(()) => {}
+            Err(Failed) => return Err(Unwritten::Padded),
         }
         match self.last.check() {
             Ok(()) => Ok(()),

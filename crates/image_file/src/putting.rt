@@ -35,21 +35,22 @@ pub fn put<D: Directory, S: Sources, K: LastCheck>(
     requires words { length image.old.buffer.now % 4 ≡ 0 }
     ensures any_moment { (old : List Event) → IsBegun names begun.name old (D.log directory.old)
         → Throughout (IsOldOrNew names (IsCheckedImage (K.passed image.new.last)
-        (S.known image.old.sources) (S.IsLog image.old.sources) (S.IsLog image.new.sources)
-        image.old.plan.now D.fresh) old) (D.log directory.old) (D.log directory.new) }
+        image.old.padding (S.known image.old.sources) (S.IsLog image.old.sources)
+        (S.IsLog image.new.sources) image.old.plan.now D.fresh) old) (D.log directory.old)
+        (D.log directory.new) }
     ensures ok { IfOk result (λ d. (old : List Event)
         → IsBegun names begun.name old (D.log directory.old)
-        → IsReplaced names (IsCheckedImage (K.passed image.new.last) (S.known image.old.sources)
-        (S.IsLog image.old.sources) (S.IsLog image.new.sources) image.old.plan.now D.fresh) old
-        (D.log directory.new)) }
+        → IsReplaced names (IsCheckedImage (K.passed image.new.last) image.old.padding
+        (S.known image.old.sources) (S.IsLog image.old.sources) (S.IsLog image.new.sources)
+        image.old.plan.now D.fresh) old (D.log directory.new)) }
     ensures durable { IfOk result (λ d. IsDurable d (D.log directory.new)) }
     ensures err { OnErr result ((old : List Event)
         → IsBegun names begun.name old (D.log directory.old)
-        → IsKept names (IsCheckedImage (K.passed image.new.last) (S.known image.old.sources)
-        (S.IsLog image.old.sources) (S.IsLog image.new.sources) image.old.plan.now D.fresh) old
-        (D.log directory.new)) }
+        → IsKept names (IsCheckedImage (K.passed image.new.last) image.old.padding
+        (S.known image.old.sources) (S.IsLog image.old.sources) (S.IsLog image.new.sources)
+        image.old.plan.now D.fresh) old (D.log directory.new)) }
     ensures cause { IfErr result (λ e. IsStop names begun.name
-        (IsCheckedImage (K.passed image.new.last) (S.known image.old.sources)
+        (IsCheckedImage (K.passed image.new.last) image.old.padding (S.known image.old.sources)
         (S.IsLog image.old.sources) (S.IsLog image.new.sources) image.old.plan.now D.fresh)
         (IsUnwritten (IsImageFault (K.fails image.old.last image.new.last)
         (S.known image.old.sources) image.old.plan.now (S.reads image.old.sources)

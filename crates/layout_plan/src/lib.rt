@@ -7,6 +7,8 @@
 //! each format. `manifest_layout` defines misfits and layouts, and `plan_types` the plan. Nothing
 //! is written, and no content is read.
 //!
+//! `misfits` returns all misfits of the lines, for people who mend them at once.
+//!
 //! A caller, proved: library_tests/src/examples/planned.rt. `plan` requires as many sizes as the
 //! manifest has sources.
 #![tactic(auto)]
@@ -17,5 +19,6 @@ mod planning;
 
 pub use error::{PlanError, name};
 pub use image_stream::{Slices, SourceFailed, Sources};
+pub use plan_rows::Misfit;
 pub use plan_types::{Body, Fill, Format, Item, Plan, Section};
-pub use planning::plan;
+pub use planning::{misfits, plan};

@@ -1,15 +1,16 @@
 //! The plan of a manifest.
-ghost use Rattle.std.specs.Prelude.{◌≡◌, length, IfOk, IfErr};
+ghost use Rattle.std.specs.Prelude.{◌≡◌, length, map, IfOk, IfErr};
 ghost use Rattle.layout_plan.specs.Refusals.{IsRefusal};
 ghost use Rattle.manifest.specs.Lines.{sources_of};
 ghost use Rattle.formats.specs.Format.{format_of};
+ghost use Rattle.plan_rows.specs.Misfits.{misfit_fault, misfits_of};
 ghost use Rattle.plan_types.specs.Plans.{IsPlanOf};
 
 use crate::error::PlanError;
 use crate::laid::{place, sections};
 use manifest::{Manifest, Name};
 use plan_rows::misfit::TOO_LARGE;
-use plan_rows::{PathTargets, least_of_lines, root, rows};
+use plan_rows::{Misfit, PathTargets, least_of_lines, root, rows};
 use plan_types::{Format, Plan};
 use rom_fields::OutOfMemory;
 use std::alloc::Global;
@@ -61,4 +62,25 @@ pub fn plan(alloc: Global, m: &Manifest, sizes: &[u64], format: Format) -> Resul
     let volume = volume_of(alloc, m)?;
     let sizes = copied(alloc, sizes)?;
     Ok(Plan::new(format, volume, laid, sections, sizes))
+}
+
+/// Returns the misfits of the lines of a manifest in this format, if its sources have these sizes,
+/// one for each: of each line that does not fit, the least one, in the order of the lines. The
+/// whole and the volume's name are not judged.
+///
+/// # Errors
+///
+/// `OutOfMemory`.
+pub fn misfits(
+    alloc: Global,
+    m: &Manifest,
+    sizes: &[u64],
+    format: Format,
+) -> Result<Vec<Misfit>, OutOfMemory>
+    requires { length sizes.now ≡ length (sources_of m.now.lines) }
+    ensures { IfOk result (λ v. map misfit_fault v.items
+        ≡ misfits_of (format_of format) m.now sizes.now m.now.lines) }
+{
+    let files = PathTargets::new(alloc, m, sizes)?;
+    plan_rows::misfits(alloc, format, m, &files)
 }

@@ -1,7 +1,11 @@
 -- `without_bytes`, `size_by`: the kind and the size of a line's file. `exceeds`: an attribute is
--- more than a format can hold. `misfit_fault`: a misfit of the code as a fault. (This project's
--- own.)
+-- more than a format can hold. `misfits_of`: the misfits of lines. `misfit_fault`: a misfit of the
+-- code as a fault. (This project's own.)
 use Rattle.std.specs.Prelude.{ℕ, ◌==◌, ◌||◌, ◌&&◌, Bool, nat_lt, not, length, Option, Some, None}
+use Rattle.std.specs.Prelude.{List, [], ◌∷◌, ◌++◌}
+use Rattle.formats.specs.Format.{Format}
+use Rattle.manifest.specs.Lines.{ManifestLines}
+use Rattle.manifest_layout.specs.Tests.{at_line, number_of_line}
 use Rattle.formats.specs.declared.capacity.Capacity.{Capacity}
 use Rattle.romfs_format.specs.Tree.{mode_named}
 use Rattle.romfs_layout.specs.Layout.{number_of, runnable}
@@ -54,6 +58,17 @@ size_by Slink l o = length l.text
 size_by File l o = size_or o
 size_by Same l o = size_or o
 size_by _ l o = 0
+
+-- the misfit that there may be, as a list
+abbrev pub listed : Option Fault → List Fault
+listed None = []
+listed (Some e) = e ∷ []
+
+-- the least misfit of each line that has one, in the order of the lines
+abbrev pub misfits_of : Format → ManifestLines → List ℕ → List Line → List Fault
+misfits_of f m sizes [] = []
+misfits_of f m sizes (l ∷ ls) =
+    listed (at_line l.number (number_of_line f m sizes l)) ++ misfits_of f m sizes ls
 
 -- a misfit as a fault, at the number of its line
 abbrev pub misfit_fault : Misfit → Fault

@@ -1,12 +1,12 @@
-//! The least misfit of the lines of a manifest.
-ghost use Rattle.std.specs.Prelude.{◌≡◌, List, ℕ, Some, length};
+//! The misfits of the lines of a manifest, and the least one.
+ghost use Rattle.std.specs.Prelude.{◌≡◌, List, ℕ, IfOk, Some, length, map};
 ghost use Rattle.std.specs.Option.{option_map};
 ghost use Rattle.manifest.specs.Grammar.{IsManifest};
 ghost use Rattle.manifest_layout.specs.Tests as tests;
 ghost use Rattle.manifest_layout.specs.Misfit.{HasLineMisfit};
 ghost use Rattle.plan_rows.specs.Files.{IsOf};
 ghost use Rattle.formats.specs.Format.{format_of};
-ghost use Rattle.plan_rows.specs.Misfits.{misfit_fault};
+ghost use Rattle.plan_rows.specs.Misfits.{misfit_fault, misfits_of};
 ghost use Rattle.record_forest.specs.Faults.{IsLeastFaultOf};
 ghost use Rattle.record_forest.specs.Lesser.{lesser_of_both};
 
@@ -15,6 +15,8 @@ use crate::lines::{is_long_volume, number_of_line};
 use crate::misfit::{Misfit, NAME_TOO_LONG};
 use manifest::Manifest;
 use plan_types::Format;
+use rom_fields::OutOfMemory;
+use std::alloc::Global;
 
 /// Returns the misfit of the first line that does not fit, if there is one.
 fn first_of_lines(format: Format, m: &Manifest, files: &PathTargets) -> Option<Misfit>
@@ -83,4 +85,33 @@ pub fn least_of_lines(format: Format, m: &Manifest, files: &PathTargets) -> Opti
         (option_map misfit_fault result) }
 {
     lesser_of_both(first_of_lines(format, m, files), of_volume(format, m))
+}
+
+/// Returns the misfits of the lines of a manifest, in their order: of each line that does not fit,
+/// the least one. The sources have the sizes with which `files` was made.
+///
+/// # Errors
+///
+/// `OutOfMemory`.
+pub fn misfits(
+    alloc: Global,
+    format: Format,
+    m: &Manifest,
+    files: &PathTargets,
+) -> Result<Vec<Misfit>, OutOfMemory>
+    ensures { IfOk result (λ v. (sizes : List ℕ) → IsOf m.now.lines sizes files.now
+        → map misfit_fault v.items
+        ≡ misfits_of (format_of format) m.now sizes m.now.lines) }
+{
+    let mut found = Vec::new(alloc);
+    let all = m.lines();
+    for line in all {
+        if let Some(number) = number_of_line(format, files, line) {
+            found.push(Misfit {
+                line: line.number,
+                number,
+            })?;
+        }
+    }
+    Ok(found)
 }

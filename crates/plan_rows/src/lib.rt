@@ -29,7 +29,7 @@ mod row;
 pub use depth::deepest;
 pub use files::{PathTargets, SourceUse};
 pub use inodes::root;
-pub use least::least_of_lines;
+pub use least::{least_of_lines, misfits};
 pub use lines::romfs_mode;
 pub use misfit::Misfit;
 pub use order::rows;

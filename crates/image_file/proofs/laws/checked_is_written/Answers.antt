@@ -1,4 +1,8 @@
-use Rattle.std.proofs.Common.{◌⊎◌, inl, inr, List, ℕ, Option}
+use Rattle.std.proofs.Common.{◌≡◌, ◌⊎◌, inl, inr, List, ℕ, Option, subst, sym}
+use Rattle.image_file.specs.Images.{IsCheckedImage, IsImageWritten}
+use Rattle.image_file.specs.declared.padding.Padding.{Padding}
+use Rattle.image_stream.specs.Answers.{Answer}
+use Rattle.plan_types.specs.Plans.{Planned}
 use Rattle.atomic_file.specs.Log.{Event}
 use Rattle.atomic_file.specs.Crashes.{Place, Content, Anything, Whole}
 use Rattle.atomic_file.specs.Moments.{HoldsImage, IsNew}
@@ -17,10 +21,17 @@ either : {A B C : Type 0} → (B → C) → A ⊎ B → A ⊎ C
 either f (inl a) = inl a
 either f (inr b) = inr (f b)
 
+without : {passed : Type 0} (padding : Padding) → padding.len ≡ 0 → (known : Option (List (List ℕ)))
+    → (was is : List Answer → Type 0) → (p : Planned) → (old new : Option (List ℕ))
+    → IsCheckedImage passed padding known was is p old new → IsImageWritten known was is p old new
+without padding none known was is p old new w =
+    subst (IsImageWritten known was is p old) (sym (w.padded.none none)) w.written
+
 pub returns : goal.returns
-returns g c = λ names last known was is p fresh old log it. record {
-  seen = either (is_new _ _ (λ c w. w.1) old log _) it.seen;
-  crashed = λ place may. either (is_new _ _ (λ c w. w.1) old log place) (it.crashed place may);
+returns g c = λ names last padding known was is p fresh old log none it. record {
+  seen = either (is_new _ _ (λ c w. without padding none known _ _ p fresh c w) old log _) it.seen;
+  crashed = λ place may.
+      either (is_new _ _ (λ c w. without padding none known _ _ p fresh c w) old log place) (it.crashed place may);
   others_seen = it.others_seen;
   others_crashed = it.others_crashed;
   files = it.files;
