@@ -1,36 +1,35 @@
--- The parts of a header, joined.
-use Rattle.std.proofs.Common.{◌≡◌, ℕ, List, ◌++◌, sym, ap, ◌∙◌, append_assoc}
-use Rattle.std.specs.Prelude.{codes}
+-- The parts of a map, joined.
+use Rattle.std.proofs.Common.{◌≡◌, ℕ, List, ◌++◌, sym, ap, ◌∙◌, append_assoc, Bool}
 use Rattle.std.specs.Prelude.{Result, Ok, Err, OnOk, OnErr, IfErr}
 use Rattle.std.specs.List.{flat_map}
 use Rattle.image_header.specs.declared.error.HeaderError.{HeaderError}
 use Rattle.image_header.specs.declared.error.HeaderError.TheVariants.{WriteFault}
 use Rattle.rom_tree.specs.Tree.{Node}
 use Rattle.rom_tree.specs.Names.{names}
-use Rattle.image_header.specs.Header.{head_text, header_text, name_macros}
+use Rattle.image_header.specs.Forms.{last_lines}
+use Rattle.image_header.specs.Header.{head_text, map_text, name_macros}
+use Rattle.image_header.specs.declared.form.Form.{Form}
 
--- the head and the macros of all names
-abbrev pub most_text : List ℕ → ℕ → ℕ → Node → List ℕ
-most_text prefix base size t = head_text prefix base size ++ flat_map (λ n. name_macros prefix base n) (names t)
+module _ (f : Form) (chosen : List ℕ → Bool) (prefix : List ℕ) (base size : ℕ) (t : Node) where
+  -- the head and the lines of all names
+  abbrev pub most_text : List ℕ
+  most_text =
+      head_text f prefix base size ++ flat_map (λ n. name_macros f chosen prefix base n) (names t)
 
-abbrev pub tail : List ℕ
-tail = codes "\n#endif\n"
+  -- with the last lines behind them
+  pub header_is : (done : List ℕ) → done ≡ most_text → done ++ last_lines f ≡ map_text f chosen prefix base size t
+  unfolding map_text
+  header_is done e =
+      ap (λ (v : List ℕ). v ++ last_lines f) e
+      ∙ append_assoc (head_text f prefix base size)
+      (flat_map (λ n. name_macros f chosen prefix base n) (names t)) (last_lines f)
 
--- with the end of the guard behind them
-pub header_is : (prefix : List ℕ) (base size : ℕ) (t : Node) (done : List ℕ) → done ≡ most_text prefix base size t
-    → done ++ tail ≡ header_text prefix base size t
-unfolding header_text
-header_is prefix base size t done e =
-    ap (λ (v : List ℕ). v ++ tail) e
-    ∙ append_assoc (head_text prefix base size) (flat_map (λ n. name_macros prefix base n) (names t)) tail
+  -- a front of them is a front of the whole
+  pub header_front : (done rest : List ℕ) → done ++ rest ≡ most_text
+      → done ++ (rest ++ last_lines f) ≡ map_text f chosen prefix base size t
+  header_front done rest e = sym (append_assoc done rest (last_lines f)) ∙ header_is (done ++ rest) e
 
--- a front of them is a front of the whole
-pub header_front : (prefix : List ℕ) (base size : ℕ) (t : Node) (done rest : List ℕ)
-    → done ++ rest ≡ most_text prefix base size t → done ++ (rest ++ tail) ≡ header_text prefix base size t
-header_front prefix base size t done rest e =
-    sym (append_assoc done rest tail) ∙ header_is prefix base size t (done ++ rest) e
-
--- what follows of how a header was ended
+-- what follows of how a map was ended
 pub end_ok : {A B : Type 0} (r : Result (Unit {0}) HeaderError) → (A → B) → OnOk r A → OnOk r B
 end_ok (Ok v) f h = f h
 end_ok (Err e) f h = h

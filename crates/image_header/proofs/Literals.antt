@@ -1,9 +1,10 @@
--- The text of an address as a number of C.
+-- The text of an address as a number of C or of GNU ld.
 use Rattle.std.proofs.Common.{◌≡◌, ℕ, ◌<◌, ◌≤◌, true, false, [], ◌∷◌, ◌++◌, refl, nat_lt, rules, tests, ◌/◌}
-use Rattle.std.specs.Prelude.{codes}
 use Rattle.image_info.specs.Map.{eight_digits}
 use Rattle.image_info.proofs.Lines.{address_low, address_high}
 use Rattle.image_header.specs.Header.{address_number}
+use Rattle.image_header.specs.Forms.{suffix, long_suffix}
+use Rattle.image_header.specs.declared.form.Form.{Form}
 
 lt_is : (a b : ℕ) → a < b → nat_lt a b ≡ true
 lt_is a b h = search (rules, tests)
@@ -12,12 +13,12 @@ le_is : (a b : ℕ) → b ≤ a → nat_lt a b ≡ false
 le_is a b h = search (rules, tests)
 
 -- an address below 2^32, and one from there on
-pub number_low : (a : ℕ) → a < 4294967296
-    → 48 ∷ 120 ∷ [] ++ (eight_digits a ++ codes "u") ≡ address_number a
+pub number_low : (f : Form) (a : ℕ) → a < 4294967296
+    → 48 ∷ 120 ∷ [] ++ (eight_digits a ++ suffix f) ≡ address_number f a
 unfolding address_number
-number_low a h = rw (lt_is a 4294967296 h, address_low a h) refl
+number_low f a h = rw (lt_is a 4294967296 h, address_low a h) refl
 
-pub number_high : (a : ℕ) → 4294967296 ≤ a
-    → 48 ∷ 120 ∷ [] ++ (eight_digits (a / 4294967296) ++ (eight_digits a ++ codes "ull")) ≡ address_number a
+pub number_high : (f : Form) (a : ℕ) → 4294967296 ≤ a
+    → 48 ∷ 120 ∷ [] ++ (eight_digits (a / 4294967296) ++ (eight_digits a ++ long_suffix f)) ≡ address_number f a
 unfolding address_number
-number_high a h = rw (le_is a 4294967296 h, address_high a h) refl
+number_high f a h = rw (le_is a 4294967296 h, address_high a h) refl

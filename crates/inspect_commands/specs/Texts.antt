@@ -1,7 +1,7 @@
 -- What the commands that inspect an image have to print, with which status, and why they may stop.
 -- (This project's own.)
 use Rattle.std.specs.Prelude.{◌≡◌, ℕ, ◌⊎◌, Bool, true, false, List, [], length, Option, Some, None}
-use Rattle.std.specs.Prelude.{◌∷◌, ◌&&◌}
+use Rattle.std.specs.Prelude.{◌∷◌, ◌&&◌, if◌then◌else◌, Result, Ok, Err}
 use Rattle.std.specs.List.{flat_map}
 use Rattle.rom_tree.specs.Image.{Image}
 use Rattle.rom_tree.specs.Names.{Name}
@@ -16,10 +16,16 @@ use Rattle.image_extents.specs.declared.extent.Extents.{Extents}
 use Rattle.image_extents.specs.Sorted.{AreOf}
 use Rattle.image_extents.specs.Lines.{extents_text}
 use Rattle.image_extents.specs.Which.{is_inside, which_text}
-use Rattle.image_header.specs.Header.{header_text}
+use Rattle.image_header.specs.Header.{map_text}
 use Rattle.image_header.specs.Header.{HasLongPath as HeaderHasLongPath}
+use Rattle.image_header.specs.declared.error.HeaderError.{HeaderError}
+use Rattle.image_header.specs.declared.error.HeaderError.TheVariants as error
+use Rattle.image_header.specs.declared.form.Form.{Form}
 use Rattle.rom_commands.specs.declared.ending.Ending.{Ending}
 use Rattle.rom_commands.specs.declared.ending.Ending.TheVariants.{Done, Warned, Memory, LongPath}
+use Rattle.image_numbers.specs.Description.{array_text, description}
+use Rattle.image_numbers.specs.declared.numbers.Numbers.{Numbers}
+use Rattle.rom_commands.specs.declared.ending.Ending.TheVariants.{WriteFault}
 use Rattle.inspect_commands.specs.Ends.{HasText, MayStop}
 
 -- no reason
@@ -76,15 +82,23 @@ pub record IsExtents (a : AnyImage) (base file : ℕ) (text : List ℕ) (s : End
   pub same : text ≡ extents_text base file found
   pub ends : s ≡ Done
 
--- the header of an image
-abbrev pub IsHeader : List ℕ → ℕ → Image → HasText
-IsHeader prefix base m text s =
-    (text ≡ header_text prefix base (length m.bytes) m.tree) × (s ≡ Done)
+-- the map of the chosen files of an image
+abbrev pub IsMap : Form → (List ℕ → Bool) → List ℕ → ℕ → Image → HasText
+IsMap f chosen prefix base m text s =
+    (text ≡ map_text f chosen prefix base (length m.bytes) m.tree) × (s ≡ Done)
 
-abbrev pub StopsHeader : List ℕ → ℕ → Image → MayStop
-StopsHeader prefix base m why text =
-    (why ≡ LongPath) × HeaderHasLongPath m.tree
-    × (text ≡ header_text prefix base (length m.bytes) m.tree)
+-- a path is too long, or the choice was refused memory
+abbrev pub StopsMap : Form → (List ℕ → Bool) → Type 0 → List ℕ → ℕ → Image → MayStop
+StopsMap f chosen Refuses prefix base m why text =
+    (((why ≡ LongPath) × HeaderHasLongPath m.tree) ⊎ ((why ≡ Memory) × Refuses))
+    × (text ≡ map_text f chosen prefix base (length m.bytes) m.tree)
+
+-- how the writing of a map ends
+abbrev pub map_ending : Result (Unit {0}) HeaderError → Ending
+map_ending (Ok v) = Done
+map_ending (Err error.LongPath) = LongPath
+map_ending (Err error.WriteFault) = WriteFault
+map_ending (Err error.OutOfMemory) = Memory
 
 -- what is at each of some addresses
 unfoldable pub places_text : ℕ → ℕ → Extents → List ℕ → List ℕ
@@ -106,3 +120,7 @@ pub record IsPlaces (image : AnyImage) (base file : ℕ) (addresses text : List 
   pub are : AreOf image found
   pub same : text ≡ places_text base file found addresses
   pub ends : s ≡ places_ending (are_inside base file found addresses)
+
+-- the description of an image with these numbers, as an array of C or as bytes
+abbrev pub IsNumbers : Bool → Numbers → HasText
+IsNumbers array n text s = (text ≡ (if array then array_text n else description n)) × (s ≡ Done)

@@ -1,18 +1,14 @@
 //! Where the bytes of an image lie in the flash.
-ghost use Rattle.std.specs.Prelude.{◌≤◌};
-ghost use Rattle.rom_tree.specs.Tree.{IsShallow};
 ghost use Rattle.image_info.specs.Gaps.{IsChecked};
 ghost use Rattle.inspect_commands.specs.Ends.{Ends, Finishes, IsPictured, Writes};
-ghost use Rattle.inspect_commands.specs.Texts.{IsExtents, IsHeader, StopsHeader, StopsOfMemory};
+ghost use Rattle.inspect_commands.specs.Texts.{IsExtents, StopsOfMemory};
 
 use crate::ending::end;
 use image_check::AnyImage;
 use image_extents::{extents, write_extents};
-use image_header::{HeaderError, write_header};
 use image_picture::{PictureError, write_picture};
 use rom_commands::Ending;
 use rom_fields::ByteWrite;
-use rom_tree::TreeImage;
 use std::alloc::Global;
 
 /// Writes the lines of the extents of an image.
@@ -36,24 +32,6 @@ fn write_all<W: ByteWrite>(
     }
 }
 
-/// Writes the header of an image.
-fn write_macros<'a, T: TreeImage<'a>, W: ByteWrite>(
-    image: &T,
-    base: u64,
-    prefix: &[u8],
-    w: &mut W,
-) -> Ending<'a>
-    requires { IsShallow (T.image image.now).tree }
-    ensures { Writes (IsHeader prefix.now base (T.image image.now))
-        (StopsHeader prefix.now base (T.image image.now)) (W.output w.old) (W.output w.new) result }
-{
-    match write_header(image, base, prefix, w) {
-        Ok(()) => Ending::Done,
-        Err(HeaderError::LongPath) => Ending::LongPath,
-        Err(HeaderError::WriteFault) => Ending::WriteFault,
-    }
-}
-
 /// Prints to `out` the lines of the extents of a checked image, whose first byte has the address
 /// `base`, in a file of so many bytes, and flushes it. Returns `Done`. Otherwise `err` says why:
 /// `Memory` if memory was refused, of which nothing is printed, and `WriteFault` if a write or the
@@ -71,26 +49,6 @@ pub fn print_extents<W: ByteWrite, E: ByteWrite>(
         (W.output out.new) (E.output err.old) (E.output err.new) result }
 {
     let printed = write_all(alloc, image, base, file, out);
-    end(out, err, printed)
-}
-
-/// Prints to `out` a header for C and C++ of an image, whose first byte has the address `base`, and
-/// flushes it. The names of macros begin with the prefix. Returns `Done`. Otherwise `err` says why:
-/// `WriteFault` if a write or the flush failed, and `LongPath` if the path of a regular file has
-/// more than 16,640 bytes.
-pub fn print_header<'a, T: TreeImage<'a>, W: ByteWrite, E: ByteWrite>(
-    image: &T,
-    base: u64,
-    prefix: &[u8],
-    out: &mut W,
-    err: &mut E,
-) -> Ending<'a>
-    requires { IsShallow (T.image image.now).tree }
-    ensures { Ends (IsHeader prefix.now base (T.image image.now))
-        (StopsHeader prefix.now base (T.image image.now)) (W.output out.old) (W.output out.new)
-        (E.output err.old) (E.output err.new) result }
-{
-    let printed = write_macros(image, base, prefix, out);
     end(out, err, printed)
 }
 

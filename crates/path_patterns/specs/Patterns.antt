@@ -3,6 +3,7 @@
 use Rattle.std.specs.Prelude.{ℕ, if◌then◌else◌, ◌&&◌, ◌||◌, leb, not, Bool, true, false}
 use Rattle.std.specs.Prelude.{List, [], ◌∷◌}
 use Rattle.std.specs.List.{list_any}
+use Rattle.std.specs.Str.{chars, is_utf8}
 use Rattle.path_patterns.specs.declared.pattern.Piece.{Piece}
 use Rattle.path_patterns.specs.declared.pattern.Piece.TheVariants.{Star, One}
 use Rattle.path_patterns.specs.declared.pattern.Set.{Set}
@@ -35,3 +36,7 @@ fits [] [] = true
 fits [] (c ∷ cs) = false
 fits (Star ∷ ps) cs = any_rest (fits ps) cs
 fits (One s ∷ ps) cs = starts s (fits ps) cs
+
+-- the same for a path as bytes: they are UTF-8, and the pattern matches its characters
+abbrev pub fits_bytes : List Piece → List ℕ → Bool
+fits_bytes ps bs = is_utf8 bs && fits ps (chars bs)

@@ -9,7 +9,7 @@ pub returns : goal.returns
 unfolding macros definition macro_front macro_name
 returns g c =
     let P : ℕ → Type 0 = λ n. Puts (sink (g.W.ByteWrite.output c.put_front.new.w) c.put_front.new.failed)
-    (sink (g.W.ByteWrite.output c.put_length.new.w) c.put_length.new.failed) (length_number n) in
+    (sink (g.W.ByteWrite.output c.put_length.new.w) c.put_length.new.failed) (length_number c.args.form n) in
     chain c.put_place.ensures (chain
-    (chain c.put_front.ensures (chain (subst P c.from.ensures c.put_length.ensures) c.put.ensures))
-    (chain c.put_front-2.ensures (chain c.put_text.ensures c.put-2.ensures)))
+    (chain c.put_front.ensures (chain (subst P c.from.ensures c.put_length.ensures) c.put_behind.ensures))
+    c.put_path.ensures)

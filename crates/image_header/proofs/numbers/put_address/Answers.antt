@@ -7,14 +7,14 @@ use Rattle.image_header.proofs.numbers.put_address.Goals as goal
 pub returns-then-address-lt4294967296 : goal.returns-then-address-lt4294967296
 returns-then-address-lt4294967296 g c =
     let P : List ℕ → Type 0 = λ v. Puts (sink (g.W.ByteWrite.output c.args.w.now) c.args.failed.now)
-    (sink (g.W.ByteWrite.output c.put-then-address-lt4294967296.new.w) c.put-then-address-lt4294967296.new.failed) v in
-    subst P (number_low c.args.address c.if-address-lt4294967296.true)
-    (chain c.put.ensures (chain c.put_eight_digits.ensures c.put-then-address-lt4294967296.ensures))
+    (sink (g.W.ByteWrite.output c.put_suffix.new.w) c.put_suffix.new.failed) v in
+    subst P (number_low c.args.form c.args.address c.if-address-lt4294967296.true)
+    (chain c.put.ensures (chain c.put_eight_digits.ensures c.put_suffix.ensures))
 
 pub returns-else-address-lt4294967296 : goal.returns-else-address-lt4294967296
 returns-else-address-lt4294967296 g c =
     let P : List ℕ → Type 0 = λ v. Puts (sink (g.W.ByteWrite.output c.args.w.now) c.args.failed.now)
-    (sink (g.W.ByteWrite.output c.put-else-address-lt4294967296.new.w) c.put-else-address-lt4294967296.new.failed) v in
-    subst P (number_high c.args.address c.if-address-lt4294967296.false)
+    (sink (g.W.ByteWrite.output c.put_long_suffix.new.w) c.put_long_suffix.new.failed) v in
+    subst P (number_high c.args.form c.args.address c.if-address-lt4294967296.false)
     (chain c.put.ensures (chain c.put_eight_digits-else-address-lt4294967296.ensures
-    (chain c.put_eight_digits-else-address-lt4294967296-2.ensures c.put-else-address-lt4294967296.ensures)))
+    (chain c.put_eight_digits-else-address-lt4294967296-2.ensures c.put_long_suffix.ensures)))

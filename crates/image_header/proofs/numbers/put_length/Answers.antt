@@ -4,4 +4,4 @@ use Rattle.image_header.proofs.numbers.put_length.Goals as goal
 
 pub returns : goal.returns
 unfolding length_number
-returns g c = chain c.put_long_decimal.ensures c.put.ensures
+returns g c = chain c.put_long_decimal.ensures c.put_suffix.ensures

@@ -6,7 +6,6 @@ use Rattle.image_header.proofs.writing.put_head.Goals as goal
 pub returns : goal.returns
 unfolding head_text definition macro_front macro_name identifier
 returns g c =
-    chain c.put.ensures (chain c.put_name.ensures (chain c.put-2.ensures (chain c.put_name-2.ensures
-    (chain c.put-3.ensures (chain
-    (chain c.put_front.ensures (chain c.put_address.ensures c.put-4.ensures))
-    (chain c.put_front-2.ensures (chain c.put_length.ensures c.put-5.ensures)))))))
+    chain c.put_first_lines.ensures (chain
+    (chain c.put_front.ensures (chain c.put_address.ensures c.put_behind.ensures))
+    (chain c.put_front-2.ensures (chain c.put_length.ensures c.put_behind-2.ensures)))

@@ -5,9 +5,9 @@ use Rattle.rom_tree.specs.Names.{Name, names}
 use Rattle.rom_tree.specs.Walks.{IsWalk, to_come}
 use Rattle.image_header.specs.Header.{name_macros}
 use Rattle.image_header.proofs.Headers.{most_text}
-use Rattle.image_header.proofs.writing.write_header.Given as goal
+use Rattle.image_header.proofs.writing.write_map.Given as goal
 
--- the head and the macros of the names before were put, and those of the names that are to come complete them
+-- the head and the lines of the names before were put, and those of the names that are to come complete them
 abbrev pub invariant-loop-failed : goal.invariant-loop-failed
 invariant-loop-failed g l = record {
   walk : IsWalk (g.T.Viewed.image l.image) l.walk;
@@ -15,8 +15,10 @@ invariant-loop-failed g l = record {
   names : before ++ to_come (g.T.Viewed.image l.image) l.walk ≡ names (g.T.Viewed.image l.image).tree;
   done : List ℕ;
   puts : Puts (sink (g.W.ByteWrite.output l.fn.w) false) (sink (g.W.ByteWrite.output l.w) l.failed) done;
-  rest : done ++ flat_map (λ n. name_macros l.prefix l.base n) (to_come (g.T.Viewed.image l.image) l.walk)
-      ≡ most_text l.prefix l.base (length (g.T.Viewed.image l.image).bytes) (g.T.Viewed.image l.image).tree;
+  rest : done ++ flat_map (λ n. name_macros l.form (g.C.Choice.chosen l.choice) l.prefix l.base n)
+      (to_come (g.T.Viewed.image l.image) l.walk)
+      ≡ most_text l.form (g.C.Choice.chosen l.choice) l.prefix l.base (length (g.T.Viewed.image l.image).bytes)
+      (g.T.Viewed.image l.image).tree;
 }
 
 abbrev pub decreases-loop-failed : goal.decreases-loop-failed
