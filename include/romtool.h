@@ -12,6 +12,7 @@
  * The caller has to keep these rules, which no call can check:
  *   1. A struct romtool_image or romtool_file is all zeros, as ROMTOOL_INIT leaves it, or only this library has written
  *      it. Its fields may be read. (Numbers that romtool_check returned for exactly the same bytes may be put back.)
+ *      A description that romtool_from_numbers accepts is one that romtool_numbers wrote for exactly these bytes.
  *   2. A call on the same image returned each node number that is passed to a call (`root` is one), or romtool_is_node is
  *      true of it.
  *   3. The bytes with which an image was checked stay unchanged and at their address as long as a struct of the image,
@@ -44,11 +45,54 @@
 #define ROMTOOL_VERSION 20000 /* 10000 * major + 100 * minor + patch */
 #define ROMTOOL_VERSION_TEXT "2.0.0"
 
-/* Whether pointers have 32 bits. Ten functions then return their results through a pointer, behind wrappers. */
+/* Whether pointers have 32 bits. Twelve functions then return their results through a pointer, behind wrappers. */
 #if UINTPTR_MAX <= 0xffffffffu
 #define ROMTOOL_32 1
 #else
 #define ROMTOOL_32 0
+#endif
+
+/* Each function of the library has the first number of its version in its name, `romtool_check_v3` for example. So a
+ * program links only with a library whose structs and answers are those of the header that it was compiled with. The
+ * number is that of the version to come. romtool_library_version has the same name in all versions. */
+#define romtool_check romtool_check_v3
+#define romtool_numbers romtool_numbers_v3
+#define romtool_from_numbers romtool_from_numbers_v3
+#define romtool_is_node romtool_is_node_v3
+#define romtool_links romtool_links_v3
+#define romtool_open romtool_open_v3
+#define romtool_open_node romtool_open_node_v3
+#define romtool_read romtool_read_v3
+#define romtool_read_at romtool_read_at_v3
+#define romtool_seek romtool_seek_v3
+#define romtool_readdir romtool_readdir_v3
+#define romtool_telldir romtool_telldir_v3
+#define romtool_seekdir romtool_seekdir_v3
+#if ROMTOOL_32
+#define rom32_lookup rom32_lookup_v3
+#define rom32_lookup_within rom32_lookup_within_v3
+#define rom32_stat rom32_stat_v3
+#define rom32_stat_node rom32_stat_node_v3
+#define rom32_lookup_at rom32_lookup_at_v3
+#define rom32_readlink_node rom32_readlink_node_v3
+#define rom32_readlink rom32_readlink_v3
+#define rom32_parent rom32_parent_v3
+#define rom32_volume rom32_volume_v3
+#define rom32_fstat rom32_fstat_v3
+#define rom32_map rom32_map_v3
+#define rom32_lend rom32_lend_v3
+#else
+#define romtool_lookup romtool_lookup_v3
+#define romtool_lookup_within romtool_lookup_within_v3
+#define romtool_stat_node romtool_stat_node_v3
+#define romtool_lookup_at romtool_lookup_at_v3
+#define romtool_readlink_node romtool_readlink_node_v3
+#define romtool_readlink romtool_readlink_v3
+#define romtool_parent romtool_parent_v3
+#define romtool_volume romtool_volume_v3
+#define romtool_fstat romtool_fstat_v3
+#define romtool_map romtool_map_v3
+#define romtool_lend romtool_lend_v3
 #endif
 
 /* A size or a number of bytes. The library counts in 64 bits on every machine. In a struct on a 32-bit machine, a
@@ -71,7 +115,8 @@ extern "C" {
 #define ROMTOOL_ENOTDIR 2u       /* a name follows a node that is not a directory, or the open node is not one */
 #define ROMTOOL_ELOOP 3u         /* more than 40 symbolic links */
 #define ROMTOOL_ENAMETOOLONG 4u  /* a path of more than 4095 bytes, or a name of more than 255 */
-#define ROMTOOL_EINVAL 5u        /* no slash in front of a path; no symbolic link; an empty or too long range */
+#define ROMTOOL_EINVAL 5u        /* no slash in front of a path; no symbolic link; an empty or too long range; too many
+                                  * entries */
 #define ROMTOOL_EBADF 6u         /* the file is not open */
 #define ROMTOOL_EISDIR 7u        /* the open node is a directory */
 #define ROMTOOL_ENXIO 8u         /* neither a directory nor a regular file */
@@ -80,6 +125,7 @@ extern "C" {
 #define ROMTOOL_FAULT 14u        /* the image has a fault */
 #define ROMTOOL_MEMORY 15u       /* memory was refused */
 #define ROMTOOL_BUDGET 16u       /* more names would be compared than the budget has */
+#define ROMTOOL_NUMBERS 17u      /* numbers that are not those of an image with so many bytes */
 
 /* Formats. */
 #define ROMTOOL_ROMFS 1u
@@ -155,10 +201,29 @@ struct romtool_entry {
     uint32_t kind;
 };
 
+/* Returns the version of the linked library, as ROMTOOL_VERSION is that of the header. */
+uint32_t romtool_library_version(void);
+
 /* Checks `len` bytes as a romfs or cramfs image, and opens it. Returns 0; or ROMTOOL_FAULT or ROMTOOL_MEMORY, and then
- * `image` is closed. For n references, the time is n log n, and the memory about 100 bytes for each. An image has at
- * most 1,048,576 references and 64 names on a path. */
+ * `image` is closed. `root` is then the node of the path `/`. For n references, the time is n log n, and the memory
+ * about 100 bytes for each. An image has at most 1,048,576 references and 64 names on a path. */
 uint32_t romtool_check(struct romtool_image *image, const uint8_t *data, romtool_size len);
+
+/* Writes the description of an open image: 48 bytes, from which romtool_from_numbers opens the same bytes without a
+ * check. They are all 0 if no image is open. Otherwise they are these words of 32 bits, the least byte first: at 0 the
+ * bytes `romtool` and a zero, at 8 the version 1 of the description, at 12 `format`, at 16 and 20 the lower and the upper
+ * half of `len`, at 24 `accessible`, at 28 `root`, at 32 `references`, at 36 `depth`, and at 40 and 44 zero. */
+#define ROMTOOL_DESCRIPTION 48
+void romtool_numbers(const struct romtool_image *image, uint8_t numbers[ROMTOOL_DESCRIPTION]);
+
+/* Opens an image by its description, without a check: no byte of the image is read. Returns 0; or ROMTOOL_NUMBERS, and
+ * then `image` is closed, if the description has another magic or version, or that of another number of bytes.
+ *
+ * Anything else is believed. The description HAS TO BE one that romtool_numbers wrote after a check of exactly these
+ * bytes (rule 1): otherwise no call on the image has a meaning, and a call may read outside of it. So protect image and
+ * description together, by one signature for example. */
+uint32_t romtool_from_numbers(struct romtool_image *image, const uint8_t *data, romtool_size len,
+    const uint8_t numbers[ROMTOOL_DESCRIPTION]);
 
 /* Returns the node to which a path leads, or its kind and numbers. `follow` says whether a symbolic link as the last
  * component is followed. Errors: ROMTOOL_CLOSED, ROMTOOL_ENOENT, _ENOTDIR, _ELOOP, _ENAMETOOLONG, _EINVAL. */
@@ -208,7 +273,12 @@ static inline struct romtool_stat romtool_stat(const struct romtool_image *image
     return answer;
 }
 #else
-struct romtool_stat romtool_stat(const struct romtool_image *image, const uint8_t *path, romtool_size len, bool follow);
+struct romtool_stat romtool_stat_v3(const struct romtool_image *image, const uint8_t *path, romtool_size len,
+    bool follow);
+static inline struct romtool_stat romtool_stat(const struct romtool_image *image, const uint8_t *path,
+    romtool_size len, bool follow) {
+    return romtool_stat_v3(image, path, len, follow);
+}
 #endif
 
 /* Returns the kind and numbers of the node with this number, which a call on this image has to have returned (rule 2).
@@ -228,6 +298,36 @@ struct romtool_stat romtool_stat_node(const struct romtool_image *image, uint32_
 /* Returns whether a number is that of a node, so that numbers from elsewhere can be tried: of handles, for example. The
  * time grows with the number of references of the image. If no image is open, no number is. */
 bool romtool_is_node(const struct romtool_image *image, uint32_t node);
+
+/* Returns the number of names that lead to the node with this number. It serves as `st_nlink`. A directory has one name,
+ * and so has the root; 1 says of a directory that its subdirectories are not counted. It is 0 for a number that is no
+ * node's, and if no image is open. The time grows with the number of references of the image. */
+uint64_t romtool_links(const struct romtool_image *image, uint32_t node);
+
+/* Returns the node of the parent of the directory with this number (rule 2). The root is its own parent. Errors:
+ * ROMTOOL_CLOSED, and _ENOTDIR if the node is not a directory. The time grows with the number of references. */
+#if ROMTOOL_32
+void rom32_parent(struct romtool_node *answer, const struct romtool_image *image, uint32_t directory);
+static inline struct romtool_node romtool_parent(const struct romtool_image *image, uint32_t directory) {
+    struct romtool_node answer;
+    rom32_parent(&answer, image, directory);
+    return answer;
+}
+#else
+struct romtool_node romtool_parent(const struct romtool_image *image, uint32_t directory);
+#endif
+
+/* Returns where the name of the image's volume is, whose length may be 0. Error: ROMTOOL_CLOSED. */
+#if ROMTOOL_32
+void rom32_volume(struct romtool_place *answer, const struct romtool_image *image);
+static inline struct romtool_place romtool_volume(const struct romtool_image *image) {
+    struct romtool_place answer;
+    rom32_volume(&answer, image);
+    return answer;
+}
+#else
+struct romtool_place romtool_volume(const struct romtool_image *image);
+#endif
 
 /* Returns the node of the entry with exactly this name, one component, in the directory with this node number (rule 2).
  * No entry is named `.` or `..`, and no link is followed. Errors: ROMTOOL_CLOSED, _ENOTDIR if the node is not a directory,
@@ -295,8 +395,9 @@ static inline struct romtool_stat romtool_fstat(const struct romtool_file *file)
 struct romtool_stat romtool_fstat(const struct romtool_file *file);
 #endif
 
-/* Returns where exactly the `len` bytes of an open file from its byte `off` on are, whatever its position is. Errors,
- * in this order: ROMTOOL_EBADF, _EISDIR, _EINVAL (`len` is 0, or the range does not end within the file), _ERANGE. */
+/* Returns where exactly the `len` bytes of an open file from its byte `off` on are, whatever its position is. If the file
+ * is empty and `off` and `len` are 0, `at` and `len` of the place are 0. Errors otherwise, in this order: ROMTOOL_EBADF,
+ * _EISDIR, _EINVAL (`len` is 0, or the range does not end within the file), _ERANGE. */
 #if ROMTOOL_32
 void rom32_map(struct romtool_place *answer, const struct romtool_file *file, uint64_t off, uint64_t len);
 static inline struct romtool_place romtool_map(const struct romtool_file *file, uint64_t off, uint64_t len) {
@@ -325,15 +426,29 @@ struct romtool_place romtool_lend(struct romtool_file *file, uint64_t max);
  * end and after an error. Returns 0 or the error: ROMTOOL_EBADF, _EISDIR. */
 uint32_t romtool_read(struct romtool_file *file, uint8_t *buffer, romtool_size len, romtool_size *count);
 
+/* Copies the bytes of an open file from its byte `off` on, as romtool_read does, whatever its position is. The position
+ * stays. Returns 0 or the error: ROMTOOL_EBADF, _EISDIR. */
+uint32_t romtool_read_at(const struct romtool_file *file, uint64_t off, uint8_t *buffer, romtool_size len,
+    romtool_size *count);
+
 /* Sets the position of an open file, also past its end. Returns 0 or the error: ROMTOOL_EBADF, _EISDIR. */
 uint32_t romtool_seek(struct romtool_file *file, uint64_t position);
 
 /* The next entry of an open directory, without `.` and `..`, with its kind. Gives 0 or the error: ROMTOOL_EBADF,
- * _ENOTDIR. To begin again, open it again. */
+ * _ENOTDIR. */
 uint32_t romtool_readdir(struct romtool_file *file, struct romtool_entry *entry);
 
-/* Returns an error of a path or of an open file as Linux numbers it in errno.h, and EIO (5) for a fault, for no open image
- * and for a budget that is used up. */
+/* Returns the number of entries before the next one of an open directory, or 0 if no directory is open. An entry that is
+ * read adds 1, so a caller may count by itself. The time grows with the number of entries. */
+uint64_t romtool_telldir(const struct romtool_file *file);
+
+/* Sets an open directory to the position after its first `entries` entries: what romtool_telldir returned leads back to
+ * the same entries, and 0 to the first one. Each number is allowed. Returns 0 or the error: ROMTOOL_EBADF, _ENOTDIR, and
+ * _EINVAL if the directory has fewer entries; then the position stays. The time grows with the number of entries. */
+uint32_t romtool_seekdir(struct romtool_file *file, uint64_t entries);
+
+/* Returns an error of a path or of an open file as Linux numbers it in errno.h, and EIO (5) for a fault, for no open image,
+ * for a budget that is used up and for numbers that are refused. */
 static inline int romtool_errno(uint32_t error) {
     switch (error) {
     case ROMTOOL_OK: return 0;
@@ -379,6 +494,7 @@ static inline const char *romtool_strerror(uint32_t error) {
     case ROMTOOL_FAULT: return "the image has a fault";
     case ROMTOOL_MEMORY: return "out of memory";
     case ROMTOOL_BUDGET: return "too many names compared";
+    case ROMTOOL_NUMBERS: return "not the numbers of this image";
     default: return "unknown error";
     }
 }
@@ -424,6 +540,44 @@ static inline romtool_size romtool_path_len(const char *path) {
     return len;
 }
 
+/* The calls by a path with a budget. Each is romtool_lookup_within and the call on the node to which the path leads. The
+ * errors are those of the call without a budget, and ROMTOOL_BUDGET. The answers are those of that call, since it also
+ * looks the path up, with the same errors, and then does with the node what the call on a node does. */
+static inline struct romtool_stat romtool_stat_within(const struct romtool_image *image, const uint8_t *path,
+    romtool_size len, bool follow, uint64_t *budget) {
+    const struct romtool_node node = romtool_lookup_within(image, path, len, follow, budget);
+    if (node.error) {
+        struct romtool_stat none = ROMTOOL_INIT;
+        none.error = node.error;
+        return none;
+    }
+    return romtool_stat_node(image, node.node);
+}
+
+static inline struct romtool_place romtool_readlink_within(const struct romtool_image *image, const uint8_t *path,
+    romtool_size len, uint64_t *budget) {
+    const struct romtool_node node = romtool_lookup_within(image, path, len, false, budget);
+    if (node.error) {
+        struct romtool_place none = ROMTOOL_INIT;
+        none.error = node.error;
+        return none;
+    }
+    return romtool_readlink_node(image, node.node);
+}
+
+static inline uint32_t romtool_open_within(struct romtool_file *file, const struct romtool_image *image,
+    const uint8_t *path, romtool_size len, uint64_t *budget) {
+    const struct romtool_node node = romtool_lookup_within(image, path, len, true, budget);
+    if (node.error) {
+        file->image = *image;
+        file->error = node.error;
+        file->node = 0;
+        file->position = 0;
+        return node.error;
+    }
+    return romtool_open_node(file, image, node.node);
+}
+
 /* The calls by a path, for a path that ends with a zero. */
 static inline struct romtool_node romtool_lookup_str(const struct romtool_image *image, const char *path, bool follow) {
     return romtool_lookup(image, ROMTOOL_TEXT(path), romtool_path_len(path), follow);
@@ -445,6 +599,21 @@ static inline struct romtool_place romtool_readlink_str(const struct romtool_ima
 static inline uint32_t romtool_open_str(struct romtool_file *file, const struct romtool_image *image,
     const char *path) {
     return romtool_open(file, image, ROMTOOL_TEXT(path), romtool_path_len(path));
+}
+
+static inline struct romtool_stat romtool_stat_within_str(const struct romtool_image *image, const char *path,
+    bool follow, uint64_t *budget) {
+    return romtool_stat_within(image, ROMTOOL_TEXT(path), romtool_path_len(path), follow, budget);
+}
+
+static inline struct romtool_place romtool_readlink_within_str(const struct romtool_image *image, const char *path,
+    uint64_t *budget) {
+    return romtool_readlink_within(image, ROMTOOL_TEXT(path), romtool_path_len(path), budget);
+}
+
+static inline uint32_t romtool_open_within_str(struct romtool_file *file, const struct romtool_image *image,
+    const char *path, uint64_t *budget) {
+    return romtool_open_within(file, image, ROMTOOL_TEXT(path), romtool_path_len(path), budget);
 }
 
 /* The layout of the library. A compiler that lays out the structs in another way stops here. */

@@ -50,7 +50,7 @@ MIPS = ["clang", "--target=mipsel-linux-gnu", "-fno-pic", "-mno-abicalls", "-mno
 CMAKE = """cmake_minimum_required(VERSION 3.13)
 project(boot C)
 set(ROMTOOL_TARGET thumbv7m)
-set(ROMTOOL_SMALL ON)
+set(ROMTOOL_WIDE ON)
 find_package(romtool %s REQUIRED)
 add_executable(boot boot.c)
 target_link_libraries(boot romtool::romtool romtool::area romtool::bytes gcc)
@@ -65,20 +65,23 @@ console.log(found.error, reader.stat(new TextEncoder().encode("/d/link"), true).
 """
 # what a module for 64 bits has of the sample of tools/to32_test.py, and what it lacks
 WIDE = (
-    "define void @romtool_stat(ptr sret([36 x i8]) align 4 %0, ptr %1, ptr %2, i64 %3, i1 %4) nounwind {\n",
-    "  %got = call ptr @rom64.stat(ptr %0, ptr %1, ptr %2, i64 %3, i1 %4)\n",
-    "define void @romtool_fstat(ptr sret([36 x i8]) align 4 %0, ptr %1) nounwind {",
-    "define internal ptr @rom64.stat_node(",
-    "define signext i32 @romtool_check(",
-    "define i64 @romtool_lookup(",
-    "define { i64, i64 } @romtool_map(",
-    "define zeroext i1 @romtool_is_node(",
+    "define void @romtool_stat_v3(ptr sret([36 x i8]) align 4 %0, ptr %1, ptr %2, i64 %3, i1 %4) nounwind {\n",
+    "  %got = call ptr @rom64.stat_v3(ptr %0, ptr %1, ptr %2, i64 %3, i1 %4)\n",
+    "define void @romtool_fstat_v3(ptr sret([36 x i8]) align 4 %0, ptr %1) nounwind {",
+    "define internal ptr @rom64.stat_node_v3(",
+    "define signext i32 @romtool_check_v3(",
+    "define i64 @romtool_lookup_v3(",
+    "define { i64, i64 } @romtool_map_v3(",
+    "define zeroext i1 @romtool_is_node_v3(",
+    "define i64 @romtool_links_v3(",
+    "define void @romtool_numbers_v3(",
+    "define signext i32 @romtool_library_version(",
 )
 # changes of the sample that are refused
 REFUSED = (
-    ("define i32 @romtool_seek(ptr %0", "define i16 @romtool_seek(ptr %0"),
-    ("define i64 @romtool_lookup(", "define { i32, i32 } @romtool_lookup("),
-    ("i64 %2, i1 noundef %3)", "i64 %2, i1 zeroext %3)"), ("@romtool_seek(ptr %0, i64 %1)", "@romtool_sought(ptr %0, i64 %1)"),
+    ("define i32 @romtool_seek_v3(ptr %0", "define i16 @romtool_seek_v3(ptr %0"),
+    ("define i64 @romtool_lookup_v3(", "define { i32, i32 } @romtool_lookup_v3("),
+    ("i64 %2, i1 noundef %3)", "i64 %2, i1 zeroext %3)"), ("@romtool_seek_v3(ptr %0, i64 %1)", "@romtool_sought_v3(ptr %0, i64 %1)"),
 )  # fmt: skip
 # lines of LLVM 22, and as each release reads them
 PLAIN = (
@@ -160,7 +163,7 @@ def programs(release, top, counts):
         if tool := missing(compiler[0], emulator[0]):
             counts.skips("%s: there is no %s" % (what, tool))
             continue
-        for name in ("libromtool.a", "libromtool_small.a"):
+        for name in ("libromtool.a", "libromtool_wide.a"):
             archive = "%s/lib/%s/%s" % (release, target, name)
             if os.path.exists(archive):
                 sources = [top + "/boot.c", release + "/src/area.c", release + "/src/bytes.c", archive, "-lgcc"]
@@ -187,7 +190,8 @@ def headers(release, counts):
     for name in ("romtool.h", "romtool_heap.h"):
         with open("%s/include/%s" % (release, name), encoding="utf-8") as it:
             text += re.sub(r"/\*.*?\*/|static inline [^{;]*\{", "", it.read(), flags=re.S)
-    declared = set(re.findall(r"\b((?:romtool|rom32|rattle)_\w+)\([^;{()]*\);", text))
+    symbols = dict(re.findall(r"^#define (rom\w+) (\w+_v\d+)$", text, re.M))
+    declared = {symbols.get(it, it) for it in re.findall(r"\b((?:romtool|rom32|rattle)_\w+)\([^;{()]*\);", text)}
     with open(release + "/src/area.c", encoding="utf-8") as it:
         of_area = set(re.findall(r"\b((?:romtool|rattle)_\w+)\([^;{()]*\) \{", it.read()))
     counts.equal("functions that are declared", len(declared) > 25, True)

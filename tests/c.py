@@ -7,6 +7,8 @@ The library is what tools/library builds of crates/rom_c, if no other is given. 
 warning as an error, and with AddressSanitizer and UBSan if the compiler has them.
     answers.c  answers `check`, `list` and `serve` on the cases (see run.py) as romtool does, except for lines that ask for
                nothing, and on one directory that is built in each format
+    calls.c    the calls that no server has, on each node of an image: positions in directories, names and parents of nodes,
+               reads at a position, descriptions, and the calls by a path with a budget
     closed.c   each call on handles that are zeroed or refused, and with NULL for no bytes
     first.c    where the entry of a program is that is run in place, as docs/C.md shows it
     nodes.c    a directory of 50,000 files, listed and opened by its entries' nodes: a walk with look-ups of names would take
@@ -19,11 +21,11 @@ warning as an error, and with AddressSanitizer and UBSan if the compiler has the
     refused.c, recording.c
                a heap that records sizes and refuses each call in turn, on the images of the cases
     areas.c    the heap over an array, c/area.c, by itself and under checks
-The header is compiled as C99, C11 and C++11 to C++20 by each compiler that is installed. What the library takes from its
-surroundings is six functions. If aarch64-linux-gnu-gcc and qemu-aarch64 are installed, the library is built for
-aarch64, too, and answers.c, closed.c and reader.c are run over it; with qemu-x86_64 answers.c is also run as on an old
-processor, over a library that is built for these. The last line is `N passed, M failed`, with `, K skipped` if
-`cc` or `rt` is missing, so that nothing was run.
+A program does not link if the first number of its header is another one. The header is compiled as C99, C11 and C++11 to
+C++20 by each compiler that is installed. What the library takes from its surroundings is six functions. If
+aarch64-linux-gnu-gcc and qemu-aarch64 are installed, the library is built for aarch64, too, and answers.c, closed.c and
+reader.c are run over it; with qemu-x86_64 answers.c is also run as on an old processor, over a library that is built for
+these. The last line is `N passed, M failed`, with `, K skipped` if `cc` or `rt` is missing, so that nothing was run.
 """
 
 import os
@@ -70,6 +72,16 @@ dir /d 0755 0 0
 slink /d/link 0777 0 0 ../init
 nod /d/null 0600 0 0 c 1 3
 """
+# the name of a volume, a file with two names, directories below one another
+FURTHER = b"""volume boot%20rom
+hard /d/again /init
+dir /d/e 0755 0 0
+dir /d/e/f 0755 0 0
+slink /d/e/up 0777 0 0 ../../init
+slink /d/none 0777 0 0 nowhere
+"""
+# what calls.c prints last
+CALLED = [b"calls 670"]
 CALLS = b"""open /d/link\nfstat 0\nmap 0 5 9\nmap 0 0 6000\nmap 0 1 6000\nlend 0 100\nlend 0 9999\nlend 0 1\nseek 0 4090
 read 0 20\nread 0 4096\nopen /empty\nlend 1 1\nmap 1 0 1\nopen /d\nreaddir 2\nreaddir 2\nreaddir 2\nrewind 2\nreaddir 2
 read 2 1\nreaddir 0\nreadlink /d/link\nreadlink /init\nopen /d/null\nlstat /d/null\nlookup /d/../init\nlookup /x
@@ -164,7 +176,7 @@ def header(binary, top, program, counts):
     names = {number: name for number, (name, _) in explain.FAULTS.items()}
     counts.equal("names of faults", lines[1:41], [names.get(it, "Unknown") for it in range(40)])
     words = [it for it, line in enumerate(lines[41:]) if line != "unknown error"]
-    counts.equal("errors in words", words, [0, 1, 2, 3, 4, 5, 6, 7, 8, 10, 13, 14, 15, 16])
+    counts.equal("errors in words", words, [0, 1, 2, 3, 4, 5, 6, 7, 8, 10, 13, 14, 15, 16, 17])
     counts.equal("errors in words of their own", len(set(lines[41:])), len(words) + 1)
 
 
@@ -239,6 +251,30 @@ def each_format(binary, top, answers, counts):
     for form in FORMATS:
         for words in (["check", form], ["list", form], ["serve", form]):
             answered(binary, answers, words, CALLS, top, "each format", counts)
+
+
+def further(binary, top, calls, counts):
+    """The calls that no server has, on an image of each format with a volume's name and a file of two names."""
+    with open(os.path.join(top, "further"), "wb") as file:
+        file.write(MANIFEST + FURTHER)
+    for form in FORMATS:
+        said([binary, "build", form, "further", "further.image"], cwd=top)
+        lines = said([calls, "further.image"], cwd=top).stdout.splitlines()
+        wrong = [it for it in lines if b"wrong" in it]
+        counts.equal("calls on " + form, (lines[:1], wrong, lines[-1:]), ([b"volume boot rom"], [], CALLED))
+
+
+def other_major(top, archive, counts):
+    """A program does not link if it was compiled with a header whose first number is another one."""
+    os.makedirs(top + "/other", exist_ok=True)
+    with open(INCLUDE + "/romtool.h", encoding="utf-8") as file:
+        text = file.read()
+    source = os.path.join(SOURCES, "first.c")
+    for number, links in ((3, True), (2, False), (4, False)):
+        with open(top + "/other/romtool.h", "w", encoding="utf-8") as file:
+            file.write(re.sub(r"_v3\b", "_v%d" % number, text))
+        done = said(["cc", "-std=c99", "-I" + top + "/other", source, archive, heap(), "-o", top + "/linked"])
+        counts.equal("a header of version %d" % number, (done.returncode == 0, b"romtool_check_v" in done.stdout), (links, not links))
 
 
 def entries(binary, top, first, counts):
@@ -345,6 +381,17 @@ def with_budgets(binary, top, within, counts):
         counts.equal("time for links that multiply in %s: %.2f s" % (form, spent), spent < 1, True)
 
 
+def described(binary, top, source, form, counts):
+    """Compares the description that the program prints, of the accessible bytes, with that of the library for the whole file."""
+    shown = said([binary, "numbers", form], cwd=top)
+    text = said([binary, "numbers", "--c", form], cwd=top).stdout.decode()
+    wanted = bytes(int(it) for it in re.findall(r"\d+", source.split("image_numbers[")[1].split("{")[1]))
+    wanted = wanted[:16] + wanted[24:28] + wanted[20:]
+    counts.equal("numbers of %s" % form, (shown.stdout, shown.returncode), (wanted, 0))
+    front = "static const unsigned char rom_numbers[48] = {\n"
+    counts.equal("numbers --c of %s" % form, (text[: len(front)], bytes(map(int, re.findall(r"\d+", text[len(front) :])))), (front, wanted))
+
+
 def reader(top, archive, numbers, counts, compiler="cc", emulator=()):
     """A reader without check, heap and C library, as a process of Linux."""
     for form in FORMATS:
@@ -401,7 +448,7 @@ def on_aarch64(binary, top, numbers, counts):
         cases(binary, answers, counts)
         each_format(binary, top, answers, counts)
     if closed:
-        counts.equal("closed handles on aarch64", said([closed, top + "/tree"]).stdout, b"closed 132\n")
+        counts.equal("closed handles on aarch64", said([closed, top + "/tree"]).stdout, b"closed 187\n")
     if numbers:
         reader(top, archive, numbers, counts, "aarch64-linux-gnu-gcc", ["qemu-aarch64"])
 
@@ -480,8 +527,8 @@ def main():
         needs(archive, counts)
         standards(top, archive, counts)
         words = sanitizers(top)
-        names = ("answers", "closed", "numbers", "header")
-        answers, closed, numbers, facts = (program(it, top, archive, words, counts) for it in names)
+        names = ("answers", "closed", "numbers", "header", "calls")
+        answers, closed, numbers, facts, calls = (program(it, top, archive, words, counts) for it in names)
         first = program("first", top, archive, words, counts, os.path.join(HEAPS, "heap.c"))
         nodes = program("nodes", top, archive, ["-O2"], counts, os.path.join(HEAPS, "heap.c"))
         within = program("within", top, archive, words, counts, os.path.join(HEAPS, "heap.c"))
@@ -493,6 +540,9 @@ def main():
             each_format(binary, top, answers, counts)
         if facts:
             header(binary, top, facts, counts)
+        if calls:
+            further(binary, top, calls, counts)
+        other_major(top, archive, counts)
         heaps(binary, top, refused, areas, counts)
         if first:
             entries(binary, top, first, counts)
@@ -504,7 +554,9 @@ def main():
             with open(top + "/tree", "wb") as file:
                 file.write(run.file_of("romfs/tree/image"))
             done = said([closed, top + "/tree"])
-            counts.equal("closed handles", (done.returncode, done.stdout), (0, b"closed 132\n"))
+            counts.equal("closed handles", (done.returncode, done.stdout), (0, b"closed 187\n"))
+        for form in FORMATS if numbers else ():
+            described(binary, top, said([numbers, form], cwd=top).stdout.decode(), form, counts)
         if numbers and os.uname().machine == "x86_64":
             reader(top, archive, numbers, counts)
         elif numbers:

@@ -109,13 +109,15 @@ def header(counts):
     counts.equal("names of faults", errors.FAULTS, {number: name for number, (name, _) in c.explain.FAULTS.items()})
     constants = {name: int(number) for name, number in re.findall(r"#define (ROMTOOL_\w+) (\d+)u\b", text)}
     words = {constants[name]: said for name, said in re.findall(r'case (ROMTOOL_\w+): return "(.*)";', text)}
-    others = {0, constants["ROMTOOL_CLOSED"], constants["ROMTOOL_FAULT"], constants["ROMTOOL_MEMORY"]}
+    others = {0, *(constants["ROMTOOL_" + it] for it in ("CLOSED", "FAULT", "MEMORY", "NUMBERS"))}
     counts.equal("errors", {it: said for it, (_, said) in errors._ERRORS.items()}, {it: words[it] for it in words if it not in others})
     for struct, body in re.findall(r"^struct romtool_(\w+) \{\n(.*?)^\};", text, re.M | re.S):
         fields = re.findall(r"(\w+);", re.sub(r"/\*.*?\*/", "", body, flags=re.S))
         counts.equal("fields of " + struct, [it for it, _ in library.STRUCTS[struct]._fields_], fields)
     calls = set(re.findall(r"^(?:struct )?\w+ (romtool_\w+)\(", text, re.M))
-    counts.equal("calls", set(library.CALLS), calls)
+    counts.equal("calls", set(library.CALLS), {it.removesuffix("_v%d" % library.MAJOR) for it in calls})
+    symbols = {it.removesuffix("_v%d" % library.MAJOR) for it in re.findall(r"^#define romtool_\w+ (romtool_\w+)$", text, re.M)}
+    counts.equal("names of versions", symbols | {"romtool_stat"} | library.SAME, set(library.CALLS))
     with open(PACKAGE + "/romtool/__init__.py", encoding="utf-8") as file:
         version = re.search(r'^__version__ = "(.*)"$', file.read(), re.M)
     counts.equal("version", version[1], re.search(r'#define ROMTOOL_VERSION_TEXT "(.*)"', text)[1])

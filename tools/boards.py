@@ -19,7 +19,8 @@ import to32
 import to64
 
 TEXTS = f"{kit.TOP}/c/embedded"
-# for each target: the machines of programs, in words for compilers; and whether a small archive is made
+# for each target: the machines of programs, in words for compilers; and whether an archive with the proved search is made beside
+# the small one
 MACHINES = {
     "thumbv6m": ("`-mcpu=cortex-m0`, `cortex-m0plus`, `cortex-m1`", True),
     "thumbv7m": ("`-mcpu=cortex-m3`, `cortex-m4`, `cortex-m7` with any `-mfloat-abi`", True),
@@ -41,8 +42,8 @@ WIDE = {
 }
 # what firmware uses of the library, for its sizes
 USES = {
-    "open, fstat and map": ("open", "fstat", "map"),
-    "all calls except the check": tuple(it for it in to32.EXPORTS if it != "check"),
+    "open, fstat and map": to32.exports("open", "fstat", "map"),
+    "all calls except the check": tuple(it for it in to32.EXPORTS if it not in to32.exports("check")),
     "all calls": to32.EXPORTS,
 }
 # what the library calls from outside
@@ -73,7 +74,7 @@ class Boards:
 
     def kinds(self):
         """Returns each target with each kind of its archive: small, or with the proved search."""
-        return [(name, small) for name, (_, both) in MACHINES.items() for small in ((False, True) if both else (name in WIDE,))]
+        return [(name, small) for name, (_, both) in MACHINES.items() for small in ((True, False) if both else (name in WIDE,))]
 
     def compiled(self, name, small):
         """Compiles the archive of a target, and returns its path."""
@@ -129,8 +130,8 @@ def loaded(program):
 
 
 def place(name, small):
-    """Returns the path of an archive in the release. A target that has only one archive has it under the plain name."""
-    return f"lib/{name}/libromtool{'_small' * (small and MACHINES[name][1])}.a"
+    """Returns the path of an archive in the release. The small one of a target, or the only one, has the plain name."""
+    return f"lib/{name}/libromtool{'_wide' * (not small and MACHINES[name][1])}.a"
 
 
 def text_of(name, **values):

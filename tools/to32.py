@@ -5,7 +5,7 @@ What is changed, and nothing else:
   2. A cell of a pointer stays 8 bytes wide: `alloca ptr` becomes `alloca i64`. What is stored there may have 8 bytes.
   3. A load of a pair that has a pointer becomes two loads at the offsets of 64 bits: the pairs were stored by offsets.
   4. An address becomes a number over i32: `ptrtoaddr .. to i64`.
-  5. Seven exports answer through a pointer, as romtool.h has them, and the heap is called as C for the machine has it.
+  5. Twelve exports answer through a pointer, as romtool.h has them, and the heap is called as C for the machine has it.
 
 Why that is right: each access is proved to be inside of a slice or a local, and each of these fits into 32 bits, so each
 offset does. All layouts stay those of 64 bits: nothing but the width of a pointer in its own cell differs, and a pointer
@@ -20,12 +20,27 @@ import re
 
 # the bytes of what a pair may have, as 64 bits have them
 SIZES = {"i1": 1, "i8": 1, "i16": 2, "i32": 4, "i64": 8, "ptr": 8}
+# the first number of the version, which is in the name of each export except that of the version
+MAJOR = 3
+
+
+def exports(*names):
+    """Returns the names of exports, as they are behind `romtool_`."""
+    return tuple(f"{it}_v{MAJOR}" for it in names)
+
+
 EXPORTS = (
-    "check", "lookup", "lookup_within", "lookup_at", "stat", "stat_node", "readlink", "readlink_node", "is_node", "open", "open_node",
-    "fstat", "map", "lend", "read", "seek", "readdir",
+    *exports(
+        "check", "numbers", "from_numbers", "lookup", "lookup_within", "lookup_at", "stat", "stat_node", "readlink",
+        "readlink_node", "is_node", "links", "parent", "volume", "open", "open_node", "fstat", "map", "lend", "read", "read_at",
+        "seek", "readdir", "telldir", "seekdir",
+    ),
+    "library_version",
 )  # fmt: skip
-# those that answer by a struct of more than 16 bytes
-THROUGH = ("stat", "stat_node", "fstat")
+# those that answer by a struct of more than 16 bytes, by a number of 64 bits, and not at all
+THROUGH = exports("stat", "stat_node", "fstat")
+COUNTS = exports("links", "telldir")
+SILENT = exports("numbers")
 HEAP = ("rattle_alloc", "rattle_realloc", "rattle_dealloc")
 # what the module may call from outside: the heap, these functions of C, and these of LLVM
 OUTSIDE = (*HEAP, "memcpy", "memmove", "memset", "memcmp")
@@ -227,7 +242,7 @@ class Pass:
         if not found:
             raise Refused(f"no export romtool_{name}")
         kind = found[1].replace("noundef ", "").strip()
-        if kind in ("i32", "zeroext i1"):
+        if kind in ("i32", "zeroext i1") or kind == "i64" and name in COUNTS or kind == "void" and name in SILENT:
             return
         given = split(found[2].replace("noundef ", ""))
         if not all(re.fullmatch(rf"(?:ptr|i64|i32|i1) {VALUE}", it) for it in given):

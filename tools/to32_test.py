@@ -46,7 +46,7 @@ declare i64 @llvm.umin.i64(i64, i64)
 """
     + BODY.replace('  store i64 %word, ptr @"other", align 8\n', "  store i64 %word, ptr %q, align 8\n")
     + """
-define i32 @romtool_check(ptr noundef %0, ptr %1, i64 %2) #0 {
+define i32 @romtool_check_v3(ptr noundef %0, ptr %1, i64 %2) #0 {
   %m = call { i64, i64 } @rattle_alloc(i64 8, i64 8)
   %l = call { i64, i64 } @rattle_realloc(ptr %0, i64 1, i64 8, i64 8)
   call void @rattle_dealloc(ptr %0)
@@ -57,22 +57,31 @@ define i32 @romtool_check(ptr noundef %0, ptr %1, i64 %2) #0 {
     + "".join(
         f"define {kind} @romtool_{name}({given}) #0 {{\n  {end}\n}}\n\n"
         for name, kind, given, end in (
-            ("lookup", "i64", "ptr noundef %0, ptr %1, i64 %2, i1 noundef %3", "ret i64 0"),
-            ("lookup_within", "i64", "ptr %0, ptr %1, i64 %2, i1 %3, ptr %4", "ret i64 0"),
-            ("lookup_at", "i64", "ptr %0, i32 %1, ptr %2, i64 %3", "ret i64 0"),
-            ("is_node", "zeroext i1", "ptr %0, i32 %1", "ret i1 0"),
-            ("stat", "ptr", "ptr %0, ptr %1, ptr %2, i64 %3, i1 %4", "ret ptr %0"),
-            ("stat_node", "ptr", "ptr %0, ptr %1, i32 %2", "ret ptr %0"),
-            ("readlink", "{ i64, i64 }", "ptr %0, ptr %1, i64 %2", "ret { i64, i64 } poison"),
-            ("readlink_node", "{ i64, i64 }", "ptr %0, i32 %1", "ret { i64, i64 } poison"),
-            ("open", "i32", "ptr %0, ptr %1, ptr %2, i64 %3", "ret i32 0"),
-            ("open_node", "i32", "ptr %0, ptr %1, i32 %2", "ret i32 0"),
-            ("fstat", "ptr", "ptr %0, ptr %1", "ret ptr %0"),
-            ("map", "{ i64, i64 }", "ptr %0, i64 %1, i64 %2", "ret { i64, i64 } poison"),
-            ("lend", "{ i64, i64 }", "ptr %0, i64 %1", "ret { i64, i64 } poison"),
-            ("read", "i32", "ptr %0, ptr %1, i64 %2, ptr %3", "ret i32 0"),
-            ("seek", "i32", "ptr %0, i64 %1", "ret i32 0"),
-            ("readdir", "i32", "ptr %0, ptr %1", "ret i32 0"),
+            ("lookup_v3", "i64", "ptr noundef %0, ptr %1, i64 %2, i1 noundef %3", "ret i64 0"),
+            ("lookup_within_v3", "i64", "ptr %0, ptr %1, i64 %2, i1 %3, ptr %4", "ret i64 0"),
+            ("lookup_at_v3", "i64", "ptr %0, i32 %1, ptr %2, i64 %3", "ret i64 0"),
+            ("is_node_v3", "zeroext i1", "ptr %0, i32 %1", "ret i1 0"),
+            ("stat_v3", "ptr", "ptr %0, ptr %1, ptr %2, i64 %3, i1 %4", "ret ptr %0"),
+            ("stat_node_v3", "ptr", "ptr %0, ptr %1, i32 %2", "ret ptr %0"),
+            ("readlink_v3", "{ i64, i64 }", "ptr %0, ptr %1, i64 %2", "ret { i64, i64 } poison"),
+            ("readlink_node_v3", "{ i64, i64 }", "ptr %0, i32 %1", "ret { i64, i64 } poison"),
+            ("open_v3", "i32", "ptr %0, ptr %1, ptr %2, i64 %3", "ret i32 0"),
+            ("open_node_v3", "i32", "ptr %0, ptr %1, i32 %2", "ret i32 0"),
+            ("fstat_v3", "ptr", "ptr %0, ptr %1", "ret ptr %0"),
+            ("map_v3", "{ i64, i64 }", "ptr %0, i64 %1, i64 %2", "ret { i64, i64 } poison"),
+            ("lend_v3", "{ i64, i64 }", "ptr %0, i64 %1", "ret { i64, i64 } poison"),
+            ("read_v3", "i32", "ptr %0, ptr %1, i64 %2, ptr %3", "ret i32 0"),
+            ("seek_v3", "i32", "ptr %0, i64 %1", "ret i32 0"),
+            ("readdir_v3", "i32", "ptr %0, ptr %1", "ret i32 0"),
+            ("numbers_v3", "void", "ptr %0, ptr %1", "ret void"),
+            ("from_numbers_v3", "i32", "ptr %0, ptr %1, i64 %2, ptr %3", "ret i32 0"),
+            ("links_v3", "i64", "ptr %0, i32 %1", "ret i64 0"),
+            ("parent_v3", "i64", "ptr %0, i32 %1", "ret i64 0"),
+            ("volume_v3", "{ i64, i64 }", "ptr %0", "ret { i64, i64 } poison"),
+            ("read_at_v3", "i32", "ptr %0, i64 %1, ptr %2, i64 %3, ptr %4", "ret i32 0"),
+            ("telldir_v3", "i64", "ptr %0", "ret i64 0"),
+            ("seekdir_v3", "i32", "ptr %0, i64 %1", "ret i32 0"),
+            ("library_version", "i32", "", "ret i32 0"),
         )
     )
     + "attributes #0 = { nounwind }\n"
@@ -84,13 +93,17 @@ MADE = (
     "%pair.1.a = load i8, ptr %room, align 8\n  %pair.1.at = getelementptr i8, ptr %room, i64 8\n  %pair.1.b = load ptr",
     "%plain = load { i32, i64 }, ptr %room, align 8",
     "%at = zext i32 %address.1 to i64",
-    "define void @rom32_lookup(ptr %answer, ptr %0, ptr %1, i64 %2, i1 %3) nounwind {",
-    "define void @rom32_stat(ptr %0, ptr %1, ptr %2, i64 %3, i1 %4) nounwind {",
-    "define void @rom32_stat_node(ptr %0, ptr %1, i32 %2) nounwind {",
-    "define void @rom32_lookup_at(ptr %answer, ptr %0, i32 %1, ptr %2, i64 %3) nounwind {",
-    "define zeroext i1 @romtool_is_node(",
-    "define internal i64 @rom32.lookup(",
-    "define i32 @romtool_check(",
+    "define void @rom32_lookup_v3(ptr %answer, ptr %0, ptr %1, i64 %2, i1 %3) nounwind {",
+    "define void @rom32_stat_v3(ptr %0, ptr %1, ptr %2, i64 %3, i1 %4) nounwind {",
+    "define void @rom32_stat_node_v3(ptr %0, ptr %1, i32 %2) nounwind {",
+    "define void @rom32_lookup_at_v3(ptr %answer, ptr %0, i32 %1, ptr %2, i64 %3) nounwind {",
+    "define zeroext i1 @romtool_is_node_v3(",
+    "define i64 @romtool_links_v3(ptr %0, i32 %1) #0 {",
+    "define void @romtool_numbers_v3(ptr %0, ptr %1) #0 {",
+    "define void @rom32_parent_v3(ptr %answer, ptr %0, i32 %1) nounwind {",
+    "define i32 @romtool_library_version() #0 {",
+    "define internal i64 @rom32.lookup_v3(",
+    "define i32 @romtool_check_v3(",
     "call { i64, i64 } @rom32.alloc(i64 8, i64 8)",
     "declare void @rattle_alloc(ptr sret([16 x i8]) align 8, i64, i64) nounwind",
     "call void @rattle_dealloc(ptr %0)",
@@ -163,15 +176,17 @@ TOPS = (
 )
 # what the sample may not lack, have otherwise or have besides
 WITHOUT = (
-    ("define i32 @romtool_seek(", "define i32 @romtool_sought("),
-    ("define i64 @romtool_lookup(", "define i128 @romtool_lookup("),
-    ("define { i64, i64 } @romtool_map(", "define { ptr, i64 } @romtool_map("),
+    ("define i32 @romtool_seek_v3(", "define i32 @romtool_sought_v3("),
+    ("define i64 @romtool_lookup_v3(", "define i128 @romtool_lookup_v3("),
+    ("define { i64, i64 } @romtool_map_v3(", "define { ptr, i64 } @romtool_map_v3("),
     ("declare { i64, i64 } @rattle_alloc(i64, i64)\n", "declare { i64, i64 } @rattle_alloc(i64)\n"),
     ("declare { i64, i64 } @rattle_realloc(ptr, i64, i64, i64)\n", "declare ptr @rattle_realloc(ptr, i64, i64, i64)\n"),
-    ("@romtool_fstat(ptr %0, ptr %1)", "@romtool_fstat(ptr sret({ ptr, i64 }) align 8 %0, ptr %1)"),
-    ("define ptr @romtool_fstat(", "define void @romtool_fstat("),
-    ("define ptr @romtool_fstat(", "define i32 @romtool_further(ptr %0) #0 {\n  ret i32 0\n}\n\ndefine ptr @romtool_fstat("),
-    ("define i64 @romtool_lookup(", "define ptr @romtool_lookup("),
+    ("@romtool_fstat_v3(ptr %0, ptr %1)", "@romtool_fstat_v3(ptr sret({ ptr, i64 }) align 8 %0, ptr %1)"),
+    ("define ptr @romtool_fstat_v3(", "define void @romtool_fstat_v3("),
+    ("define ptr @romtool_fstat_v3(", "define i32 @romtool_further(ptr %0) #0 {\n  ret i32 0\n}\n\ndefine ptr @romtool_fstat_v3("),
+    ("define i64 @romtool_lookup_v3(", "define ptr @romtool_lookup_v3("),
+    ("define i64 @romtool_links_v3(", "define ptr @romtool_links_v3("),
+    ("define void @romtool_numbers_v3(", "define ptr @romtool_numbers_v3("),
 )
 
 
@@ -203,7 +218,7 @@ def main():
             wrong.append(f"is not refused: {new}")
     if not is_refused(SAMPLE, small=True):
         wrong.append("a module without a search is not refused")
-    small = to32.to32(SAMPLE.replace("define i32 @romtool_check", SEARCH + "define i32 @romtool_check"), small=True)[0]
+    small = to32.to32(SAMPLE.replace("define i32 @romtool_check_v3", SEARCH + "define i32 @romtool_check_v3"), small=True)[0]
     if "ret { i8, i64 } poison" in small or small.count("phi i64 [ 0, %start ]") != 1:
         wrong.append("the search is not replaced")
     for it in wrong:

@@ -38,7 +38,7 @@ def to64(text, small=False, red_zone=True):
             text = with_sret(text, name, found[1], given)
         elif kind == "i32":
             text = text.replace(found[0], found[0].replace(f"{found[1]}@", f"signext {found[1]}@", 1))
-        elif kind not in ("i64", "zeroext i1", "{ i64, i64 }"):
+        elif kind not in ("i64", "zeroext i1", "{ i64, i64 }") and not (kind == "void" and name in to32.SILENT):
             raise to32.Refused(f"romtool_{name} answers {kind}")
     if not red_zone:
         text = re.sub(r"^(attributes #\d+ = \{)", r"\1 noredzone", text, flags=re.M)

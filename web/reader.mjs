@@ -54,7 +54,7 @@ export class Reader {
     let error = MEMORY, room = LEAST;
     for (; error === MEMORY && room <= MOST && this.reaches(area + room); room *= 4) {
       this.calls.romtool_area(area, BigInt(room));
-      error = this.calls.romtool_check(this.base, this.data, BigInt(this.size));
+      error = this.calls.romtool_check_v3(this.base, this.data, BigInt(this.size));
       if (this.calls.romtool_area_blocks() !== 0n) throw new Error("memory that was not given back");
     }
     const at = (place) => this.view.getUint32(this.base + place, true);
@@ -85,41 +85,41 @@ export class Reader {
   }
 
   lookup(path, follow = true) {
-    this.calls.rom32_lookup(this.base + ANSWER, this.base, this.base + PATH, this.path(path), follow ? 1 : 0);
+    this.calls.rom32_lookup_v3(this.base + ANSWER, this.base, this.base + PATH, this.path(path), follow ? 1 : 0);
     return { error: this.word(0), node: this.word(4) };
   }
 
   stat(path, follow = true) {
-    this.calls.rom32_stat(this.base + ANSWER, this.base, this.base + PATH, this.path(path), follow ? 1 : 0);
+    this.calls.rom32_stat_v3(this.base + ANSWER, this.base, this.base + PATH, this.path(path), follow ? 1 : 0);
     return this.answeredStat();
   }
 
   readlink(path) {
-    this.calls.rom32_readlink(this.base + ANSWER, this.base, this.base + PATH, this.path(path));
+    this.calls.rom32_readlink_v3(this.base + ANSWER, this.base, this.base + PATH, this.path(path));
     return this.answeredPlace();
   }
 
   // The same by the number of a node, without a look-up.
   statNode(node) {
-    this.calls.rom32_stat_node(this.base + ANSWER, this.base, node);
+    this.calls.rom32_stat_node_v3(this.base + ANSWER, this.base, node);
     return this.answeredStat();
   }
 
   readlinkNode(node) {
-    this.calls.rom32_readlink_node(this.base + ANSWER, this.base, node);
+    this.calls.rom32_readlink_node_v3(this.base + ANSWER, this.base, node);
     return this.answeredPlace();
   }
 
   // An open file is kept as the bytes of its struct, and is put back for each call.
   open(path) {
     const at = this.base + ANSWER;
-    const error = this.calls.romtool_open(at, this.base, this.base + PATH, this.path(path));
+    const error = this.calls.romtool_open_v3(at, this.base, this.base + PATH, this.path(path));
     return { error, held: this.bytes.slice(at, at + 64) };
   }
 
   openNode(node) {
     const at = this.base + ANSWER;
-    const error = this.calls.romtool_open_node(at, this.base, node);
+    const error = this.calls.romtool_open_node_v3(at, this.base, node);
     return { error, held: this.bytes.slice(at, at + 64) };
   }
 
@@ -135,33 +135,33 @@ export class Reader {
   }
 
   fstat(file) {
-    this.on(file, (at, to) => this.calls.rom32_fstat(to, at));
+    this.on(file, (at, to) => this.calls.rom32_fstat_v3(to, at));
     return this.answeredStat();
   }
 
   map(file, from, len) {
-    this.on(file, (at, to) => this.calls.rom32_map(to, at, BigInt(from), BigInt(len)));
+    this.on(file, (at, to) => this.calls.rom32_map_v3(to, at, BigInt(from), BigInt(len)));
     return this.answeredPlace();
   }
 
   lend(file, most) {
-    this.on(file, (at, to) => this.calls.rom32_lend(to, at, BigInt(most)));
+    this.on(file, (at, to) => this.calls.rom32_lend_v3(to, at, BigInt(most)));
     return this.answeredPlace();
   }
 
-  seek(file, position) { return this.on(file, (at) => this.calls.romtool_seek(at, BigInt(position))); }
+  seek(file, position) { return this.on(file, (at) => this.calls.romtool_seek_v3(at, BigInt(position))); }
 
   // Copies the next bytes, at most `most`, by way of memory behind the image.
   read(file, most) {
     const room = Math.min(Number(most), 1 << 24), buffer = aligned(this.data + this.size);
     if (!this.reaches(buffer + room)) throw new Error("no memory to read to");
-    const error = this.on(file, (at, to) => this.calls.romtool_read(at, buffer, BigInt(room), to));
+    const error = this.on(file, (at, to) => this.calls.romtool_read_v3(at, buffer, BigInt(room), to));
     return { error, bytes: this.bytes.slice(buffer, buffer + this.long(0)) };
   }
 
   // The next entry: its name, which is a copy, where it lies, and its node with its kind; null at the end.
   readdir(file) {
-    const error = this.on(file, (at, to) => this.calls.romtool_readdir(at, to));
+    const error = this.on(file, (at, to) => this.calls.romtool_readdir_v3(at, to));
     if (error || !this.word(20)) return { error, entry: null };
     const name = this.word(0), len = this.long(8), node = this.word(16), kind = this.word(24);
     if (name < this.data || name + len > this.data + this.size) throw new Error("a name outside of the image");

@@ -1,5 +1,5 @@
-# romtool for boards. Set ROMTOOL_TARGET to the name of a directory in lib/ before find_package(romtool), and ROMTOOL_SMALL for the
-# small archive. The targets are romtool::romtool, romtool::area (a heap over an array) and romtool::bytes (memcpy, memmove and memset
+# romtool for boards. Set ROMTOOL_TARGET to the name of a directory in lib/ before find_package(romtool), and ROMTOOL_WIDE for the
+# larger archive with the proved search. The targets are romtool::romtool, romtool::area (a heap over an array) and romtool::bytes (memcpy, memmove and memset
 # for programs without a C library). The compiler's flags are those of the toolchain file: none are added.
 set(_romtool_targets @TARGETS@)
 if(NOT ROMTOOL_TARGET IN_LIST _romtool_targets)
@@ -7,8 +7,8 @@ if(NOT ROMTOOL_TARGET IN_LIST _romtool_targets)
 endif()
 get_filename_component(_romtool_prefix "${CMAKE_CURRENT_LIST_DIR}/../../.." ABSOLUTE)
 set(_romtool_archive "${_romtool_prefix}/lib/${ROMTOOL_TARGET}/libromtool.a")
-if(ROMTOOL_SMALL AND EXISTS "${_romtool_prefix}/lib/${ROMTOOL_TARGET}/libromtool_small.a")
-    set(_romtool_archive "${_romtool_prefix}/lib/${ROMTOOL_TARGET}/libromtool_small.a")
+if(ROMTOOL_WIDE AND EXISTS "${_romtool_prefix}/lib/${ROMTOOL_TARGET}/libromtool_wide.a")
+    set(_romtool_archive "${_romtool_prefix}/lib/${ROMTOOL_TARGET}/libromtool_wide.a")
 endif()
 if(NOT TARGET romtool::romtool)
     add_library(romtool::romtool STATIC IMPORTED)

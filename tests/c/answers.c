@@ -66,6 +66,32 @@ static int is_in_image(const struct romtool_image *image, const struct romtool_e
     return name >= first && name - first <= image->len && entry->name_len <= image->len - (name - first);
 }
 
+/* Checks the positions, the names and the parent of a directory at its start, for a few directories of each image. */
+static void numbered(const struct romtool_image *image, const struct romtool_stat *stat, const struct romtool_file *dir, int is_root) {
+    static int left = 8;
+    struct romtool_file copy = *dir;
+    struct romtool_entry entry = {0};
+    uint64_t count = 0;
+    if (left-- <= 0) {
+        return;
+    }
+    while (count < 4 && romtool_readdir(&copy, &entry) == 0 && entry.some) {
+        count++;
+        wants(romtool_telldir(&copy) == count, "a number of entries that is not that of those that were read");
+        wants(romtool_links(image, entry.node) >= 1, "an entry without a name");
+        const struct romtool_node parent = romtool_parent(image, entry.node);
+        wants(entry.kind == ROMTOOL_DIRECTORY ? parent.error == 0 && parent.node == dir->node : parent.error == ROMTOOL_ENOTDIR,
+            "an entry whose parent is another directory");
+    }
+    const struct romtool_file there = copy;
+    wants(romtool_seekdir(&copy, 0) == 0 && copy.position == dir->position, "a directory that is not set back to its start");
+    wants(romtool_seekdir(&copy, count) == 0 && copy.position == there.position, "a directory that is not set back");
+    wants(romtool_seekdir(&copy, UINT64_MAX) == ROMTOOL_EINVAL && copy.position == there.position, "a position behind the end");
+    wants(romtool_links(image, stat->ino) == 1, "a directory with two names");
+    const struct romtool_node parent = romtool_parent(image, stat->ino);
+    wants(parent.error == 0 && (parent.node == stat->ino) == is_root, "a directory without a parent, or its own");
+}
+
 /* Prints the line of the node of this number, whose path is the first `len` bytes of `path`, and those below it. */
 static void list(const struct romtool_image *image, size_t len, uint32_t node) {
     const size_t whole = len ? len : 1;
@@ -98,6 +124,7 @@ static void list(const struct romtool_image *image, size_t len, uint32_t node) {
     wants(romtool_lookup_at(image, node, NULL, 0).error == ROMTOOL_ENOENT, "an entry without a name");
     wants(romtool_is_node(image, node) && !romtool_is_node(image, node + 1), "a number that is a node, or none");
     wants(romtool_open_node(&dir, image, node) == 0, "a directory that is not opened");
+    numbered(image, &stat, &dir, len == 0);
     wants(romtool_open(&by_path, image, path, whole) == 0 && by_path.node == dir.node && by_path.position == dir.position,
         "a directory that its path opens otherwise");
     for (;;) {
@@ -279,7 +306,10 @@ static void by_file(const struct romtool_image *image, const char *word, uint64_
     } else if (strcmp(word, "lend") == 0) {
         put_place(image, romtool_lend(file, one));
     } else if (strcmp(word, "map") == 0) {
-        put_place(image, romtool_map(file, one, two));
+        /* the library maps no bytes of an empty file, and a server refuses them */
+        const struct romtool_place none = {ROMTOOL_EINVAL, 0, 0}, place = romtool_map(file, one, two);
+        wants(two || place.error || (one == 0 && romtool_fstat(file).size == 0), "no bytes of a file that has some");
+        put_place(image, two || place.error ? place : none);
     } else if (strcmp(word, "seek") == 0) {
         put_done(romtool_seek(file, one));
     } else if (strcmp(word, "readdir") == 0) {

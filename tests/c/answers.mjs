@@ -80,7 +80,11 @@ function byFile(asked, fd, one, two) {
       return error ? errorLine(error) : `ok ${bytes.length} ${hex(bytes)}`;
     }
     case "lend": return placeLine(reader.lend(slot, one));
-    case "map": return placeLine(reader.map(slot, one, two));
+    case "map": {
+      const place = reader.map(slot, one, two);
+      // the library maps no bytes of an empty file, and a server refuses them
+      return placeLine(two === 0n && !place.error ? { error: 5, at: 0, len: 0 } : place);
+    }
     case "seek": return doneLine(reader.seek(slot, one));
     case "readdir": {
       const { error, entry } = reader.readdir(slot);

@@ -47,6 +47,14 @@ static void no_image(const struct romtool_image *image, const uint8_t *path, siz
     wants(at.error == ROMTOOL_CLOSED && at.node == 0, "lookup in a node without an image");
     wants(is_no_place(romtool_readlink_node(image, 32), ROMTOOL_CLOSED), "readlink of a node without an image");
     wants(!romtool_is_node(image, 32) && !romtool_is_node(image, 0), "a node without an image");
+    wants(romtool_links(image, 32) == 0 && romtool_links(image, 0) == 0, "names without an image");
+    const struct romtool_node above = romtool_parent(image, 32);
+    wants(above.error == ROMTOOL_CLOSED && above.node == 0, "a parent without an image");
+    wants(is_no_place(romtool_volume(image), ROMTOOL_CLOSED), "a volume without an image");
+    wants(is_no_stat(romtool_stat_within(image, path, len, true, &budget), ROMTOOL_CLOSED), "stat within, without an image");
+    wants(is_no_place(romtool_readlink_within(image, path, len, &budget), ROMTOOL_CLOSED), "readlink within, without an image");
+    wants(romtool_open_within(&file, image, path, len, &budget) == ROMTOOL_CLOSED, "open within, without an image");
+    wants(file.error == ROMTOOL_CLOSED && file.node == 0 && budget == 7, "a file within a budget, without an image");
     wants(romtool_open_node(&file, image, 32) == ROMTOOL_CLOSED, "open of a node without an image");
     wants(file.error == ROMTOOL_CLOSED && file.node == 0 && file.position == 0, "a file of a node without an image");
 }
@@ -66,6 +74,12 @@ static void no_file(const struct romtool_file *given) {
     count = 9;
     wants(romtool_read(&file, NULL, 0, &count) == ROMTOOL_EBADF && count == 0, "read of nothing without a file");
     wants(romtool_seek(&file, 3) == ROMTOOL_EBADF, "seek without a file");
+    count = 9;
+    wants(romtool_read_at(&file, 1, buffer, sizeof buffer, &count) == ROMTOOL_EBADF && count == 0, "read_at without a file");
+    wants(buffer[0] == 1 && buffer[3] == 4, "a buffer that was written at a position without a file");
+    wants(is_no_place(romtool_map(&file, 0, 0), ROMTOOL_EBADF), "map of no bytes without a file");
+    wants(romtool_telldir(&file) == 0, "entries without a file");
+    wants(romtool_seekdir(&file, 0) == ROMTOOL_EBADF && romtool_seekdir(&file, 9) == ROMTOOL_EBADF, "seekdir without a file");
     wants(romtool_readdir(&file, &entry) == ROMTOOL_EBADF, "readdir without a file");
     wants(entry.some == 0 && entry.node == 0 && entry.kind == 0 && entry.name_len == 0, "an entry without a file");
     wants(memcmp(&file, given, sizeof file) == 0, "a call that changed what is not open");

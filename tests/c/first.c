@@ -15,7 +15,7 @@ static const uint8_t *entry_of(const struct romtool_image *image, const char *pa
     }
     const struct romtool_stat stat = romtool_fstat(&file);
     const struct romtool_place place = romtool_map(&file, 0, stat.size);
-    if (place.error || !(stat.mode & 0111)) {
+    if (place.error || !place.len || !(stat.mode & 0111)) {
         return NULL;
     }
     return image->data + place.at;

@@ -77,7 +77,7 @@ int main(int argc, char **argv) {
     for (uint32_t i = 0; i < 40; i++) {
         printf("%s\n", romtool_fault_name(i));
     }
-    for (uint32_t i = 0; i < 17; i++) {
+    for (uint32_t i = 0; i < 18; i++) {
         printf("%s\n", romtool_strerror(i));
     }
     return wrong;

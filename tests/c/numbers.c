@@ -1,5 +1,5 @@
-/* Checks an image on the build host, and prints it as the C source that reader.c includes: its bytes, and the struct
- * that the check filled.
+/* Checks an image on the build host, and prints it as the C source that reader.c includes: its bytes, and its
+ * description.
  *
  *     numbers IMAGE >image.h */
 #include <inttypes.h>
@@ -11,6 +11,7 @@
 int main(int argc, char **argv) {
     FILE *file = argc == 2 ? fopen(argv[1], "rb") : NULL;
     struct romtool_image image = ROMTOOL_INIT;
+    uint8_t numbers[ROMTOOL_DESCRIPTION];
     if (!file || fseek(file, 0, SEEK_END) != 0) {
         return 2;
     }
@@ -32,9 +33,12 @@ int main(int argc, char **argv) {
     for (size_t i = 0; i < len; i++) {
         printf("%s%d,", i % 24 ? "" : "\n    ", data[i]);
     }
-    printf("\n};\nstatic const struct romtool_image image = {\n    image_bytes, sizeof image_bytes, ");
-    printf("%" PRIu32 ", %" PRIu32 ", 0, 0, %" PRIu32 ", %" PRIu32 ", %" PRIu32 ", %" PRIu32 ",\n};\n", image.status,
-        image.format, image.accessible, image.root, image.references, image.depth);
+    romtool_numbers(&image, numbers);
+    printf("\n};\nstatic const uint8_t image_numbers[ROMTOOL_DESCRIPTION] = {");
+    for (size_t i = 0; i < sizeof numbers; i++) {
+        printf("%s%d,", i % 24 ? "" : "\n    ", numbers[i]);
+    }
+    printf("\n};\n");
     free(data);
     return 0;
 }

@@ -1,4 +1,4 @@
-/* A boot loader's reader: no check, no heap, no C library. What it knows of the image is in image.h, which
+/* A boot loader's reader: no check, no heap, no C library. The image and its description are in image.h, which
  * numbers.c printed on the build host. It ends with the sum of the bytes of the file PATH, modulo 64, or with 64 and an
  * error. */
 #include "romtool.h"
@@ -38,8 +38,12 @@ void *memset(void *to, int byte, size_t len) {
 }
 
 static int sum_of_file(void) {
-    struct romtool_file file = {0};
-    const uint32_t error = romtool_open(&file, &image, (const uint8_t *)PATH, sizeof PATH - 1);
+    struct romtool_image image = ROMTOOL_INIT;
+    struct romtool_file file = ROMTOOL_INIT;
+    uint32_t error = romtool_from_numbers(&image, image_bytes, sizeof image_bytes, image_numbers);
+    if (!error) {
+        error = romtool_open_str(&file, &image, PATH);
+    }
     if (error) {
         return 64 + (int)error;
     }

@@ -5,12 +5,16 @@ from __future__ import annotations
 import ctypes
 import mmap
 import os
-from typing import Any, Union
+from typing import Any, Optional, Union
 
 from ._errors import Fault, Name, error_of
 from ._library import FAULT, RawEntry, RawFile, RawImage, RawPlace, library
 
 Source = Union[bytes, bytearray, memoryview, mmap.mmap, str, "os.PathLike[str]", "os.PathLike[bytes]"]
+
+
+# the bytes of a description
+NUMBERS = 48
 
 
 class _Buffer(ctypes.Structure):
@@ -56,20 +60,30 @@ def _view_of(source: Source) -> memoryview:
 class Held:
     """Holds the bytes of a checked image, which stay in memory as long as this object, or a view of the bytes.
 
-    The struct `raw` is written only by the check. Each call on a file or directory gets a new struct, so that two
+    The struct `raw` is written only by the check, or from a description. Each call on a file or directory gets a new struct, so that two
     threads never share one that is written.
     """
 
     __slots__ = ("library", "raw", "view", "_address")
 
-    def __init__(self, source: Source) -> None:
+    def __init__(self, source: Source, numbers: Optional[bytes] = None) -> None:
         self.library, self.view, self.raw = library(), _view_of(source), RawImage()
         self._address = _address_of(self.view)
+        if numbers is not None:
+            if len(numbers) != NUMBERS or self.library.romtool_from_numbers(self.raw, self._address, len(self.view), numbers):
+                raise ValueError("not the numbers of this image")
+            return
         error = self.library.romtool_check(self.raw, self._address, len(self.view))
         if error == FAULT:
             raise Fault(self.raw.fault, self.raw.at)
         if error:
             raise MemoryError("the check of an image was refused memory")
+
+    def numbers(self) -> bytes:
+        """Returns the description of the image."""
+        room = ctypes.create_string_buffer(NUMBERS)
+        self.library.romtool_numbers(self.raw, room)
+        return room.raw
 
     def open_node(self, node: int, path: Name) -> RawFile:
         """Returns the struct of a directory or regular file, which is opened by its number."""

@@ -160,6 +160,17 @@ class Image:
     def __init__(self, source: Source) -> None:
         self._held: Optional[Held] = Held(source)
 
+    @classmethod
+    def from_numbers(cls, source: Source, numbers: bytes) -> Image:
+        """Returns an image of a source and its description, without a check.
+
+        Raises ValueError if it is no description, of another version, or one of another number of bytes. **Otherwise
+        `numbers` has to be what `numbers` of a checked image of exactly these bytes is.**
+        """
+        image = cls.__new__(cls)
+        image._held = Held(source, bytes(numbers))
+        return image
+
     def _open(self) -> Held:
         """Returns what the image holds."""
         if self._held is None:
@@ -204,6 +215,17 @@ class Image:
     def depth(self) -> int:
         """Returns the greatest number of names on a path."""
         return int(self._open().raw.depth)
+
+    @property
+    def volume(self) -> bytes:
+        """Returns the name of the volume, which may be empty."""
+        held = self._open()
+        return bytes(held.lent(held.library.romtool_volume(held.raw), "/"))
+
+    @property
+    def numbers(self) -> bytes:
+        """Returns the description of the image: 48 bytes, from which `from_numbers` makes it again over the same bytes."""
+        return self._open().numbers()
 
     @property
     def view(self) -> memoryview:

@@ -60,6 +60,8 @@ class RawEntry(ctypes.Structure):
 STRUCTS = {"image": RawImage, "node": RawNode, "stat": RawStat, "place": RawPlace, "file": RawFile, "entry": RawEntry}
 
 _image, _file, _path = ctypes.POINTER(RawImage), ctypes.POINTER(RawFile), (ctypes.c_char_p, u64)
+# the first number of the library's version, which is in the names of its calls
+MAJOR = 3
 # what each call returns, and its arguments
 CALLS = {
     "romtool_check": (u32, _image, pointer, u64),
@@ -79,7 +81,18 @@ CALLS = {
     "romtool_read": (u32, _file, pointer, u64, ctypes.POINTER(u64)),
     "romtool_seek": (u32, _file, u64),
     "romtool_readdir": (u32, _file, ctypes.POINTER(RawEntry)),
+    "romtool_read_at": (u32, _file, u64, pointer, u64, ctypes.POINTER(u64)),
+    "romtool_telldir": (u64, _file),
+    "romtool_seekdir": (u32, _file, u64),
+    "romtool_links": (u64, _image, u32),
+    "romtool_parent": (RawNode, _image, u32),
+    "romtool_volume": (RawPlace, _image),
+    "romtool_numbers": (None, _image, pointer),
+    "romtool_from_numbers": (u32, _image, pointer, u64, pointer),
+    "romtool_library_version": (u32,),
 }
+# those whose names are the same in all versions
+SAME = {"romtool_library_version"}
 
 
 class LibraryError(ImportError):
@@ -99,7 +112,7 @@ def _find() -> str:
 def _probe(library: Any, name: str) -> None:
     """Raises LibraryError if a library answers calls on a closed struct in another way than the header says.
 
-    The library reports no version. So its answers show whether it has the calls and the structs of the header.
+    Its answers show whether it has the structs of the header.
     """
     image, file, entry = RawImage(), RawFile(), RawEntry()
     node = library.romtool_lookup(image, b"/", 1, True)
@@ -125,10 +138,11 @@ def load(name: str) -> Any:
         raise LibraryError(str(error)) from error
     for call, (result, *arguments) in CALLS.items():
         try:
-            function = getattr(library, call)
+            function = getattr(library, call if call in SAME else "%s_v%d" % (call, MAJOR))
         except AttributeError as error:
-            raise LibraryError("%s lacks %s" % (name, call)) from error
+            raise LibraryError("%s lacks %s, or is of another version" % (name, call)) from error
         function.restype, function.argtypes = result, arguments
+        setattr(library, call, function)
     _probe(library, name)
     return library
 

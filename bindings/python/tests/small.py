@@ -65,6 +65,22 @@ class Images(unittest.TestCase):
             romtool.Image(BYTES[:100])
         self.assertEqual(romtool.Fault(10, 0).name, "Unknown")
 
+    def test_descriptions(self):
+        image, numbers = self.image, self.image.numbers
+        self.assertEqual((len(numbers), numbers[:8], numbers[12]), (48, b"romtool\0", 1))
+        for source in (BYTES, SMALL):
+            again = romtool.Image.from_numbers(source, numbers)
+            self.assertEqual((again.format, again.size, again.references), (image.format, image.size, image.references))
+            self.assertEqual((again.depth, again.numbers, again.read("/message")), (image.depth, numbers, b"hello\n"))
+        for wrong in (bytes(48), b"", numbers + b"x", b"R" + numbers[1:], numbers[:8] + b"\2" + numbers[9:]):
+            with self.assertRaises(ValueError):
+                romtool.Image.from_numbers(BYTES, wrong)
+        with self.assertRaises(ValueError):
+            romtool.Image.from_numbers(BYTES[1:], numbers)
+
+    def test_volume(self):
+        self.assertEqual(self.image.volume, BYTES[16:].partition(b"\0")[0])
+
     def test_memory_that_is_refused(self):
         with mock.patch("romtool._held.library", lambda: types.SimpleNamespace(romtool_check=lambda *_: 15)):
             with self.assertRaises(MemoryError):

@@ -183,3 +183,15 @@ impl Display for CheckError {
 }
 
 impl core::error::Error for CheckError {}
+
+/// The reason why bytes and a description make no image: it is no description of so many bytes.
+#[derive(Clone, Copy, Debug, PartialEq, Eq)]
+pub struct WrongNumbers;
+
+impl Display for WrongNumbers {
+    fn fmt(&self, f: &mut Formatter<'_>) -> fmt::Result {
+        f.write_str("not the numbers of this image")
+    }
+}
+
+impl core::error::Error for WrongNumbers {}

@@ -125,6 +125,19 @@ impl<'a> File<'a> {
         }
     }
 
+    /// Copies the bytes from byte `from` on to a buffer, whatever the position is, and returns their number.
+    ///
+    /// # Errors
+    ///
+    /// None: the file is open.
+    pub fn read_at(&self, from: u64, buffer: &mut [u8]) -> Result<usize, Error> {
+        let (len, mut count) = (buffer.len() as u64, 0);
+        match unsafe { raw::romtool_read_at(&self.open.raw(), from, buffer.as_mut_ptr(), len, &mut count) } {
+            0 => Ok(count as usize),
+            error => Err(Error::of(error)),
+        }
+    }
+
     /// Returns the position: the number of the next byte.
     pub fn position(&self) -> u64 {
         self.open.position

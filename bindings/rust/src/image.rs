@@ -1,6 +1,6 @@
 //! Checked images, and the nodes to which their paths lead.
 
-use crate::error::{CheckError, Error, Fault};
+use crate::error::{CheckError, Error, Fault, WrongNumbers};
 use crate::file::{Dir, File};
 use crate::node::Node;
 use crate::raw;
@@ -128,6 +128,31 @@ impl<'a> Image<'a> {
         }
     }
 
+    /// Returns the description of the image: 48 bytes, from which [`Image::from_numbers`] makes it again over the same
+    /// bytes. `romtool.h` says what they are.
+    pub fn numbers(&self) -> [u8; 48] {
+        let mut numbers = [0; 48];
+        unsafe { raw::romtool_numbers(&self.raw(), &mut numbers) };
+        numbers
+    }
+
+    /// Makes an image of bytes and its description, without a check. No byte is read.
+    ///
+    /// # Errors
+    ///
+    /// The description is no description, of another version, or one of another number of bytes.
+    ///
+    /// # Safety
+    ///
+    /// If it is not refused, [`Image::numbers`] returned the description for exactly the same bytes.
+    pub unsafe fn from_numbers(bytes: &'a [u8], numbers: &[u8; 48]) -> Result<Image<'a>, WrongNumbers> {
+        let mut made = raw::Image { data: core::ptr::null(), len: 0, numbers: raw::Numbers::default() };
+        match unsafe { raw::romtool_from_numbers(&mut made, bytes.as_ptr(), bytes.len() as u64, numbers) } {
+            0 => Ok(Image { bytes, numbers: made.numbers }),
+            _ => Err(WrongNumbers),
+        }
+    }
+
     /// The struct for the library. The library has computed its numbers, for exactly the same bytes.
     pub(crate) fn raw(&self) -> raw::Image {
         raw::Image { data: self.bytes.as_ptr(), len: self.bytes.len() as u64, numbers: self.numbers }
@@ -169,6 +194,11 @@ impl<'a> Image<'a> {
     /// Returns the greatest number of names on a path.
     pub fn depth(&self) -> u32 {
         self.numbers.depth
+    }
+
+    /// Returns the name of the volume, which may be empty.
+    pub fn volume(&self) -> &'a [u8] {
+        self.place(&unsafe { raw::romtool_volume(&self.raw()) }).unwrap_or(&[])
     }
 
     /// Returns the root directory.

@@ -16,7 +16,7 @@ mod image;
 mod node;
 mod raw;
 
-pub use error::{CheckError, Error, Fault};
+pub use error::{CheckError, Error, Fault, WrongNumbers};
 pub use file::{Dir, Entry, File};
 pub use image::{Format, Image, Kind, Metadata};
 pub use node::Node;

@@ -37,6 +37,21 @@ impl<'a> Node<'a> {
         Metadata::of(&unsafe { raw::romtool_stat_node(&self.image.raw(), self.number) }).expect("the image is open")
     }
 
+    /// Returns the number of its names, as `st_nlink`. A directory has one. The time is linear in the references of the
+    /// image.
+    pub fn links(&self) -> u64 {
+        unsafe { raw::romtool_links(&self.image.raw(), self.number) }
+    }
+
+    /// Returns the parent of this directory. The root is its own. The time is linear in the references of the image.
+    ///
+    /// # Errors
+    ///
+    /// It is not a directory ([`Error::NotADirectory`]).
+    pub fn parent(&self) -> Result<Node<'a>, Error> {
+        Node::found(self.image, unsafe { raw::romtool_parent(&self.image.raw(), self.number) })
+    }
+
     /// Returns the text of the symbolic link, as a part of the image.
     ///
     /// # Errors

@@ -83,8 +83,11 @@ const _: () = {
 };
 
 extern "C" {
+    #[link_name = "romtool_check_v3"]
     pub(crate) fn romtool_check(image: *mut Image, data: *const u8, len: u64) -> u32;
+    #[link_name = "romtool_lookup_v3"]
     pub(crate) fn romtool_lookup(image: *const Image, path: *const u8, len: u64, follow: bool) -> Node;
+    #[link_name = "romtool_lookup_within_v3"]
     pub(crate) fn romtool_lookup_within(
         image: *const Image,
         path: *const u8,
@@ -92,17 +95,42 @@ extern "C" {
         follow: bool,
         budget: *mut u64,
     ) -> Node;
+    #[link_name = "romtool_stat_v3"]
     pub(crate) fn romtool_stat(image: *const Image, path: *const u8, len: u64, follow: bool) -> Stat;
+    #[link_name = "romtool_stat_node_v3"]
     pub(crate) fn romtool_stat_node(image: *const Image, node: u32) -> Stat;
+    #[link_name = "romtool_lookup_at_v3"]
     pub(crate) fn romtool_lookup_at(image: *const Image, directory: u32, name: *const u8, len: u64) -> Node;
+    #[link_name = "romtool_readlink_v3"]
     pub(crate) fn romtool_readlink(image: *const Image, path: *const u8, len: u64) -> Place;
+    #[link_name = "romtool_readlink_node_v3"]
     pub(crate) fn romtool_readlink_node(image: *const Image, node: u32) -> Place;
+    #[link_name = "romtool_open_v3"]
     pub(crate) fn romtool_open(file: *mut File, image: *const Image, path: *const u8, len: u64) -> u32;
+    #[link_name = "romtool_open_node_v3"]
     pub(crate) fn romtool_open_node(file: *mut File, image: *const Image, node: u32) -> u32;
+    #[link_name = "romtool_fstat_v3"]
     pub(crate) fn romtool_fstat(file: *const File) -> Stat;
+    #[link_name = "romtool_map_v3"]
     pub(crate) fn romtool_map(file: *const File, off: u64, len: u64) -> Place;
+    #[link_name = "romtool_lend_v3"]
     pub(crate) fn romtool_lend(file: *mut File, max: u64) -> Place;
+    #[link_name = "romtool_read_v3"]
     pub(crate) fn romtool_read(file: *mut File, buffer: *mut u8, len: u64, count: *mut u64) -> u32;
+    #[link_name = "romtool_seek_v3"]
     pub(crate) fn romtool_seek(file: *mut File, position: u64) -> u32;
+    #[link_name = "romtool_readdir_v3"]
     pub(crate) fn romtool_readdir(file: *mut File, entry: *mut Entry) -> u32;
+    #[link_name = "romtool_read_at_v3"]
+    pub(crate) fn romtool_read_at(file: *const File, off: u64, buffer: *mut u8, len: u64, count: *mut u64) -> u32;
+    #[link_name = "romtool_links_v3"]
+    pub(crate) fn romtool_links(image: *const Image, node: u32) -> u64;
+    #[link_name = "romtool_parent_v3"]
+    pub(crate) fn romtool_parent(image: *const Image, directory: u32) -> Node;
+    #[link_name = "romtool_volume_v3"]
+    pub(crate) fn romtool_volume(image: *const Image) -> Place;
+    #[link_name = "romtool_numbers_v3"]
+    pub(crate) fn romtool_numbers(image: *const Image, numbers: *mut [u8; 48]);
+    #[link_name = "romtool_from_numbers_v3"]
+    pub(crate) fn romtool_from_numbers(image: *mut Image, data: *const u8, len: u64, numbers: *const [u8; 48]) -> u32;
 }

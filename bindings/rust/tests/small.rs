@@ -1,6 +1,6 @@
 //! The crate on one small image: what each call answers, and each error.
 
-use romtool::{CheckError, Error, Fault, Format, Image, Kind, Node};
+use romtool::{CheckError, Error, Fault, Format, Image, Kind, Node, WrongNumbers};
 use std::io::{BufRead, ErrorKind, Read, Seek, SeekFrom};
 
 const SMALL: &[u8] = include_bytes!("small.romfs");
@@ -17,6 +17,44 @@ fn what_an_image_is() {
     assert_eq!(image.as_bytes().as_ptr(), SMALL.as_ptr());
     let copy = image;
     assert_eq!(copy.lookup("/etc"), image.lookup("/etc/."));
+}
+
+#[test]
+fn descriptions() {
+    let (image, numbers) = (image(), image().numbers());
+    assert_eq!((&numbers[..8], numbers[12]), (b"romtool\0".as_slice(), 1));
+    let again = unsafe { Image::from_numbers(SMALL, &numbers) }.unwrap();
+    assert_eq!((again.format(), again.size(), again.references()), (image.format(), image.size(), image.references()));
+    assert_eq!((again.depth(), again.root(), again.numbers()), (image.depth(), image.root(), numbers));
+    assert_eq!(again.open("/etc/motd").unwrap().as_bytes(), Ok(b"hello\n".as_slice()));
+    for at in [0, 8, 16, 40] {
+        let mut changed = numbers;
+        changed[at] ^= 1;
+        assert_eq!(unsafe { Image::from_numbers(SMALL, &changed) }.unwrap_err(), WrongNumbers);
+    }
+    assert_eq!(unsafe { Image::from_numbers(&SMALL[1..], &numbers) }.unwrap_err(), WrongNumbers);
+    assert_eq!(WrongNumbers.to_string(), "not the numbers of this image");
+}
+
+#[test]
+fn names_and_parents() {
+    let image = image();
+    let (root, etc) = (image.root(), image.lookup("/etc").unwrap());
+    assert_eq!((root.parent(), etc.parent()), (Ok(root), Ok(root)));
+    assert_eq!(image.lookup("/null").unwrap().parent(), Err(Error::NotADirectory));
+    assert_eq!((root.links(), etc.links(), image.lookup("/etc/motd").unwrap().links()), (1, 1, 1));
+    assert_eq!(image.volume(), &SMALL[16..16 + image.volume().len()]);
+    assert_eq!(SMALL[16 + image.volume().len()], 0);
+}
+
+#[test]
+fn reads_at_a_position() {
+    let mut file = image().open("/etc/motd").unwrap();
+    let mut buffer = [b'-'; 4];
+    file.set_position(2).unwrap();
+    assert_eq!((file.read_at(1, &mut buffer), &buffer), (Ok(4), b"ello"));
+    assert_eq!((file.read_at(4, &mut buffer), &buffer), (Ok(2), b"o\nlo"));
+    assert_eq!((file.read_at(u64::MAX, &mut buffer), file.position()), (Ok(0), 2));
 }
 
 #[test]

@@ -4,3 +4,10 @@ mod Standing
 mod Moving
 mod Listed
 mod Within
+mod Roots
+mod Trees
+mod Entries
+mod Walked
+mod Again
+mod Fronts
+mod Parents

@@ -1,5 +1,5 @@
 -- The answer of a look-up with a budget.
-use Rattle.std.proofs.Common.{◌≡◌, ℕ, ◌+◌, ◌-◌, ◌<◌, arith, refl, sym}
+use Rattle.std.proofs.Common.{◌≡◌, ℕ, ◌+◌, ◌-◌, ◌<◌, arith, refl}
 use Rattle.path_walk.proofs.Trails.{lt_true, lt_false}
 use Rattle.rom_c.specs.declared.answers.RomtoolNode.{RomtoolNode}
 use Rattle.rom_c.specs.Reported.{within_reported, no_node}

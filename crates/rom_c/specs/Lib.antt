@@ -3,3 +3,7 @@ pub mod Reported
 pub mod Opened
 pub mod Outcomes
 pub mod Files
+pub mod Directories
+pub mod Linked
+pub mod Volumes
+pub mod Numbers

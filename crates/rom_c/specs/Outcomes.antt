@@ -1,13 +1,13 @@
 -- An outcome of the machine of open files as it is reported to C: `error_reported`,
--- `place_reported`, `file_stat_reported`, `IsCopied`, `IsListed`, `HasKindIn`. (This project's
--- own.)
+-- `place_reported`, `mapped_reported`, `file_stat_reported`, `IsCopied`, `IsListed`, `HasKindIn`.
+-- (This project's own.)
 use Rattle.std.specs.Prelude.{◌≡◌, ℕ, List, [], ◌++◌, length, drop, Option, Some, None, Ok, Err}
-use Rattle.std.specs.Prelude.{IsSomeAnd}
+use Rattle.std.specs.Prelude.{IsSomeAnd, Bool, ◌&&◌, ◌==◌, if◌then◌else◌}
 use Rattle.rom_tree.specs.declared.types.Stat.{Stat}
-use Rattle.rom_tree.specs.Tree.{Node, node_at, kind_of}
+use Rattle.rom_tree.specs.Tree.{Node, node_at, kind_of, is_regular, places_of}
 use Rattle.open_files.specs.declared.slot.OpenNode.{OpenNode}
 use Rattle.open_files.specs.Calls.{Of, Lent, Named}
-use Rattle.open_files.specs.Machine.{Open, Outcome}
+use Rattle.open_files.specs.Machine.{Open, Outcome, map_on}
 use Rattle.open_files.specs.Slots.{View, stands, moved}
 use Rattle.open_files.specs.Errors.{error_number}
 use Rattle.rom_c.specs.declared.answers.RomtoolPlace.{RomtoolPlace}
@@ -23,6 +23,16 @@ error_reported (Err e) = error_number e
 abbrev pub place_reported : Outcome (Of Lent) → RomtoolPlace
 place_reported (Ok a) = record { error = 0; at = a.0.1.place; len = length a.0.1.bytes }
 place_reported (Err e) = no_place (error_number e)
+
+-- the bytes that are asked for are none, and the node is a file without bytes
+abbrev pub asks_nothing : Node → ℕ → ℕ → Bool
+asks_nothing x off len =
+    is_regular x && (length (places_of x) == 0 && (off == 0 && len == 0))
+
+-- where exactly `len` bytes from byte `off` on are; no bytes of an empty file are at 0
+abbrev pub mapped_reported : List ℕ → ℕ → ℕ → Node → ℕ → RomtoolPlace
+mapped_reported b off len x p =
+    if asks_nothing x off len then no_place 0 else place_reported (map_on None b off len x p)
 
 -- a kind and numbers, or the error
 abbrev pub file_stat_reported : Outcome (Of Stat) → RomtoolStat

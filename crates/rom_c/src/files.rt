@@ -4,19 +4,21 @@ ghost use Rattle.std.specs.Bool.{OnTrue, OnFalse};
 ghost use Rattle.rom_tree.specs.Tree.{Node, node_at, is_directory, is_regular};
 ghost use Rattle.rom_tree.specs.Image.{LieIn};
 ghost use Rattle.path_walk.specs.Resolution.{resolution, tree_namespace};
-ghost use Rattle.open_files.specs.Machine.{fstat_on, seek_on, read_on, lend_on, map_on, readdir_on};
+ghost use Rattle.open_files.specs.Machine.{fstat_on, seek_on, read_on, lend_on, readdir_on};
 ghost use Rattle.image_check.specs.Checked.{HasTree};
 ghost use Rattle.rom_c.specs.Held.{usual};
 ghost use Rattle.rom_c.specs.Reported.{no_stat as no_stat_reported, no_place as no_place_reported};
 ghost use Rattle.rom_c.specs.Outcomes.{error_reported, place_reported, file_stat_reported};
-ghost use Rattle.rom_c.specs.Outcomes.{IsCopied, IsListed};
+ghost use Rattle.rom_c.specs.Outcomes.{IsCopied, IsListed, mapped_reported};
 ghost use Rattle.rom_c.specs.Outcomes.{IsNoEntry, HasKindIn};
+ghost use Rattle.rom_c.specs.Directories.{told_on, seekdir_on};
 ghost use Rattle.rom_c.specs.Files.{IsNoFile, IsOpen, IsOpenAt, IsOpenedBy, MovesTo, file_in};
 
 use crate::answers::{CLOSED, RomtoolPlace, RomtoolStat, no_place, no_stat};
+use crate::directories::{seekdir_in, telldir_in};
 use crate::file::{RomtoolEntry, RomtoolFile, moved, no_entry, no_file, node_of};
 use crate::image::{OPEN, RomtoolImage, image_of};
-use crate::lending::{fstat_in, lend_in, map_in, read_in, readdir_in, seek_in};
+use crate::lending::{fstat_in, lend_in, map_in, read_at_in, read_in, readdir_in, seek_in};
 use crate::opening::{open_at, open_in};
 use image_check::laws::one_tree;
 use rom_tree::NodeId;
@@ -39,7 +41,7 @@ fn is_open(file: &RomtoolFile<'_>) -> bool
 /// last component is followed. Returns 0, or the number of the error, which is also in the file: 13
 /// if no image is open, the errors of `path_walk::walk`, and 8 if the path leads to neither.
 #[unsafe(no_mangle)]
-pub extern "C" fn romtool_open<'a>(
+pub extern "C" fn romtool_open_v3<'a>(
     file: &mut RomtoolFile<'a>,
     image: &RomtoolImage<'a>,
     path: &[u8],
@@ -62,7 +64,7 @@ pub extern "C" fn romtool_open<'a>(
 /// returned, at its start. There is no look-up. Returns 0, or the number of the error, which is
 /// also in the file: 13 if no image is open, and 8 if the node is neither.
 #[unsafe(no_mangle)]
-pub extern "C" fn romtool_open_node<'a>(
+pub extern "C" fn romtool_open_node_v3<'a>(
     file: &mut RomtoolFile<'a>,
     image: &RomtoolImage<'a>,
     node: u32,
@@ -86,7 +88,7 @@ pub extern "C" fn romtool_open_node<'a>(
 
 /// Returns the kind and numbers of an open file. The error is 6 if the file is not open.
 #[unsafe(no_mangle)]
-pub extern "C" fn romtool_fstat(file: &RomtoolFile<'_>) -> RomtoolStat
+pub extern "C" fn romtool_fstat_v3(file: &RomtoolFile<'_>) -> RomtoolStat
     ensures closed { (IsOpen file.now → ⊥) → result ≡ no_stat_reported 6 }
     ensures shows { IsOpen file.now → (t : Node) → HasTree file.now.image.bytes.now usual t
         → IsSomeAnd (file_in t file.now)
@@ -100,16 +102,16 @@ pub extern "C" fn romtool_fstat(file: &RomtoolFile<'_>) -> RomtoolStat
 }
 
 /// Returns the offset in the image of exactly the `len` bytes of an open file from byte `off` on,
-/// whatever its position is. The errors, in this order: 6 if the file is not open, 7 if it is a
-/// directory, 5 if `len` is 0 or the range does not end within the file, 10 if the bytes do not
-/// follow one another in the image.
+/// whatever its position is. If the file is empty, and `off` and `len` are 0, the offset is 0. The
+/// errors otherwise, in this order: 6 if the file is not open, 7 if it is a directory, 5 if `len`
+/// is 0 or the range does not end within the file, 10 if the bytes do not follow one another in the
+/// image.
 #[unsafe(no_mangle)]
-pub extern "C" fn romtool_map(file: &RomtoolFile<'_>, off: u64, len: u64) -> RomtoolPlace
+pub extern "C" fn romtool_map_v3(file: &RomtoolFile<'_>, off: u64, len: u64) -> RomtoolPlace
     ensures closed { (IsOpen file.now → ⊥) → result ≡ no_place_reported 6 }
     ensures lent { IsOpen file.now → (t : Node) → HasTree file.now.image.bytes.now usual t
         → IsSomeAnd (file_in t file.now)
-        (λ o. result ≡ place_reported (map_on None file.now.image.bytes.now off len o.place
-        o.position)) }
+        (λ o. result ≡ mapped_reported file.now.image.bytes.now off len o.place o.position) }
 {
     one_tree();
     if !is_open(file) {
@@ -123,7 +125,7 @@ pub extern "C" fn romtool_map(file: &RomtoolFile<'_>, off: u64, len: u64) -> Rom
 /// offset is 0. The error is 6 if the file is not open and 7 if it is a directory; then the
 /// position stays as it is.
 #[unsafe(no_mangle)]
-pub extern "C" fn romtool_lend(file: &mut RomtoolFile<'_>, max: u64) -> RomtoolPlace
+pub extern "C" fn romtool_lend_v3(file: &mut RomtoolFile<'_>, max: u64) -> RomtoolPlace
     ensures image { file.new.image ≡ file.old.image }
     ensures node { file.new.node ≡ file.old.node }
     ensures error { file.new.error ≡ file.old.error }
@@ -151,7 +153,7 @@ pub extern "C" fn romtool_lend(file: &mut RomtoolFile<'_>, max: u64) -> RomtoolP
 /// or an error: 6 if the file is not open, 7 if it is a directory. Then file and buffer stay as
 /// they are.
 #[unsafe(no_mangle)]
-pub extern "C" fn romtool_read(
+pub extern "C" fn romtool_read_v3(
     file: &mut RomtoolFile<'_>,
     buffer: &mut [u8],
     count: &mut usize,
@@ -179,10 +181,36 @@ pub extern "C" fn romtool_read(
     error
 }
 
+/// Copies the bytes of an open file from byte `off` on to the front of a buffer, as many as fit,
+/// whatever the position of the file is, and sets `count` to their number. The rest of the buffer
+/// stays as it is. Returns 0, or an error: 6 if the file is not open, 7 if it is a directory. Then
+/// the buffer stays as it is.
+#[unsafe(no_mangle)]
+pub extern "C" fn romtool_read_at_v3(
+    file: &RomtoolFile<'_>,
+    off: u64,
+    buffer: &mut [u8],
+    count: &mut usize,
+) -> u32
+    ensures closed { (IsOpen file.now → ⊥) → (result ≡ 6) × (count.new ≡ 0)
+        × (buffer.new ≡ buffer.old) }
+    ensures read { IsOpen file.now → (t : Node) → HasTree file.now.image.bytes.now usual t
+        → IsSomeAnd (file_in t file.now)
+        (λ o. IsCopied (read_on file.now.image.bytes.now (length buffer.old) o.place off)
+        result count.new buffer.new buffer.old) }
+{
+    one_tree();
+    if !is_open(file) {
+        *count = 0;
+        return BAD_FILE;
+    }
+    read_at_in(&image_of(&file.image), node_of(file), off, buffer, count)
+}
+
 /// Sets the position of an open file, also behind its end. Returns 0, or an error: 6 if the file is
 /// not open, 7 if it is a directory. Then the position stays as it is.
 #[unsafe(no_mangle)]
-pub extern "C" fn romtool_seek(file: &mut RomtoolFile<'_>, position: u64) -> u32
+pub extern "C" fn romtool_seek_v3(file: &mut RomtoolFile<'_>, position: u64) -> u32
     ensures image { file.new.image ≡ file.old.image }
     ensures node { file.new.node ≡ file.old.node }
     ensures error { file.new.error ≡ file.old.error }
@@ -207,7 +235,7 @@ pub extern "C" fn romtool_seek(file: &mut RomtoolFile<'_>, position: u64) -> u32
 /// the end, `some` of the entry is 0. Returns 0, or an error: 6 if the file is not open, 2 if it is
 /// not a directory. Then the position stays as it is, and there is no entry.
 #[unsafe(no_mangle)]
-pub extern "C" fn romtool_readdir<'a>(
+pub extern "C" fn romtool_readdir_v3<'a>(
     file: &mut RomtoolFile<'a>,
     entry: &mut RomtoolEntry<'a>,
 ) -> u32
@@ -231,6 +259,46 @@ pub extern "C" fn romtool_readdir<'a>(
     }
     let mut opened = node_of(file);
     let error = readdir_in(&image_of(&file.image), &mut opened, entry);
+    *file = moved(file, opened.position);
+    error
+}
+
+/// Returns the number of entries before the next one of an open directory. Each entry that is read
+/// adds 1. If no directory is open, it is 0. The time grows with the number of entries.
+#[unsafe(no_mangle)]
+pub extern "C" fn romtool_telldir_v3(file: &RomtoolFile<'_>) -> u64
+    ensures closed { (IsOpen file.now → ⊥) → result ≡ 0 }
+    ensures told { IsOpen file.now → (t : Node) → HasTree file.now.image.bytes.now usual t
+        → IsSomeAnd (file_in t file.now) (λ o. result ≡ told_on o.place o.position) }
+{
+    one_tree();
+    if !is_open(file) {
+        return 0;
+    }
+    telldir_in(&image_of(&file.image), node_of(file))
+}
+
+/// Sets an open directory to the position after so many of its entries; 0 is its start. Returns 0,
+/// or an error: 6 if the file is not open, 2 if it is not a directory, 5 if the directory has fewer
+/// entries. Then the position stays as it is. The time grows with the number of entries.
+#[unsafe(no_mangle)]
+pub extern "C" fn romtool_seekdir_v3(file: &mut RomtoolFile<'_>, entries: u64) -> u32
+    ensures image { file.new.image ≡ file.old.image }
+    ensures node { file.new.node ≡ file.old.node }
+    ensures error { file.new.error ≡ file.old.error }
+    ensures closed { (IsOpen file.old → ⊥)
+        → (result ≡ 6) × (file.new.position ≡ file.old.position) }
+    ensures sought { IsOpen file.old → (t : Node) → HasTree file.old.image.bytes.now usual t
+        → IsSomeAnd (file_in t file.old)
+        (λ o. (result ≡ error_reported (seekdir_on entries o.place))
+        × MovesTo t file.old file.new.position (seekdir_on entries o.place)) }
+{
+    one_tree();
+    if !is_open(file) {
+        return BAD_FILE;
+    }
+    let mut opened = node_of(file);
+    let error = seekdir_in(&image_of(&file.image), &mut opened, entries);
     *file = moved(file, opened.position);
     error
 }

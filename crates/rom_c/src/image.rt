@@ -1,6 +1,7 @@
 //! The check, and the struct that C holds of an image.
-ghost use Rattle.std.specs.Prelude.{◌≡◌, ◌≢◌, ◌≤◌, ◌⊎◌};
-ghost use Rattle.rom_tree.specs.Tree.{Node, levels, IsShallow};
+ghost use Rattle.std.specs.Prelude.{◌≡◌, ◌≢◌, ◌≤◌, ◌⊎◌, ◌^◌, Some, length};
+ghost use Rattle.rom_tree.specs.Tree.{Node, ino_of, levels, node_at, nodes, IsShallow};
+ghost use Rattle.rom_tree.specs.Names.{names};
 ghost use Rattle.rom_faults.specs.declared.error.CheckError.TheVariants.{Fault, OutOfMemory};
 ghost use Rattle.romfs_image.specs.Parts.{AreParts as AreRomfsParts};
 ghost use Rattle.cramfs_image.specs.Parts.{AreParts as AreCramfsParts};
@@ -16,6 +17,7 @@ ghost use Rattle.rom_c.specs.Held.{IsReported};
 
 use cramfs_format::Order;
 use cramfs_image::Parts as CramfsParts;
+use image_check::laws::one_tree;
 use image_check::{AnyImage, Parts, check};
 use rom_faults::CheckError;
 use rom_tree::Limits;
@@ -32,13 +34,16 @@ const FAULT: u32 = 14;
 const MEMORY: u32 = 15;
 
 /// The format romfs.
-const ROMFS: u32 = 1;
+pub(crate) const ROMFS: u32 = 1;
 
 /// The format cramfs, little-endian.
 const CRAMFS: u32 = 2;
 
 /// The format cramfs, big-endian.
 const CRAMFS_BIG: u32 = 3;
+
+/// The offset of the root in cramfs.
+const CRAMFS_ROOT: u32 = 64;
 
 /// The struct that C holds of an image. Its bytes have to stay at their address and unchanged as
 /// long as it is used. With status 0 it is closed, and has no claim about its bytes.
@@ -75,6 +80,7 @@ fn opened_romfs<'a>(bytes: &'a [u8], parts: RomfsParts) -> RomtoolImage<'a>
     ensures status { result.status ≡ 1 }
     ensures bytes { result.bytes.now ≡ bytes.now }
     ensures format { IsFormat bytes.now result.format }
+    ensures root { result.root ≡ parts.root }
     ensures references { result.references ≡ parts.references }
     ensures depth { result.depth ≡ parts.depth }
     ensures fault { (result.fault ≡ 0) × (result.at ≡ 0) }
@@ -102,6 +108,7 @@ fn opened_cramfs<'a>(bytes: &'a [u8], parts: CramfsParts) -> RomtoolImage<'a>
     ensures status { result.status ≡ 1 }
     ensures bytes { result.bytes.now ≡ bytes.now }
     ensures format { IsFormat bytes.now result.format }
+    ensures root { result.root ≡ 64 }
     ensures references { result.references ≡ parts.references }
     ensures depth { result.depth ≡ parts.depth }
     ensures fault { (result.fault ≡ 0) × (result.at ≡ 0) }
@@ -114,7 +121,7 @@ fn opened_cramfs<'a>(bytes: &'a [u8], parts: CramfsParts) -> RomtoolImage<'a>
             fault: 0,
             at: 0,
             accessible: parts.accessible,
-            root: 64,
+            root: CRAMFS_ROOT,
             references: parts.references,
             depth: parts.depth,
         },
@@ -125,7 +132,7 @@ fn opened_cramfs<'a>(bytes: &'a [u8], parts: CramfsParts) -> RomtoolImage<'a>
             fault: 0,
             at: 0,
             accessible: parts.accessible,
-            root: 64,
+            root: CRAMFS_ROOT,
             references: parts.references,
             depth: parts.depth,
         },
@@ -140,6 +147,7 @@ fn opened<'a>(bytes: &'a [u8], found: &AnyImage<'a>) -> RomtoolImage<'a>
     ensures status { result.status ≡ 1 }
     ensures bytes { result.bytes.now ≡ bytes.now }
     ensures format { IsFormat bytes.now result.format }
+    ensures root { result.root ≡ ino_of (any_view found.now).tree }
     ensures report { IsReported bytes.now result.references result.depth }
     ensures fault { (result.fault ≡ 0) × (result.at ≡ 0) }
 {
@@ -151,7 +159,7 @@ fn opened<'a>(bytes: &'a [u8], found: &AnyImage<'a>) -> RomtoolImage<'a>
 
 /// Returns the image that a check refused: closed, with the fault, or without one if memory was
 /// refused.
-fn refused<'a>(bytes: &'a [u8], fault: u32, at: u32) -> RomtoolImage<'a>
+pub(crate) fn refused<'a>(bytes: &'a [u8], fault: u32, at: u32) -> RomtoolImage<'a>
     ensures fault { result.fault ≡ fault }
     ensures at { result.at ≡ at }
     ensures bytes { result.bytes.now ≡ bytes.now }
@@ -179,6 +187,8 @@ pub(crate) fn check_into<'a>(alloc: Global, image: &mut RomtoolImage<'a>, bytes:
     ensures open { result ≡ 0 → image.new.status ≡ 1 }
     ensures tree { result ≡ 0 → (t : Node) × HasTree bytes.now usual t }
     ensures format { result ≡ 0 → IsFormat bytes.now image.new.format }
+    ensures root { result ≡ 0 → (t : Node) → HasTree bytes.now usual t
+        → node_at t image.new.root ≡ Some t }
     ensures report { result ≡ 0 → IsReported bytes.now image.new.references image.new.depth }
     ensures sound { result ≡ 0 → (image.new.fault ≡ 0) × (image.new.at ≡ 0) }
     ensures closed { result ≢ 0 → (image.new.status ≡ 0) × (image.new.format ≡ 0) }
@@ -191,6 +201,7 @@ pub(crate) fn check_into<'a>(alloc: Global, image: &mut RomtoolImage<'a>, bytes:
     ensures no_fault { result ≡ 15 → (image.new.fault ≡ 0) × (image.new.at ≡ 0) }
     ensures codes { (result ≡ 0) ⊎ ((result ≡ 14) ⊎ (result ≡ 15)) }
 {
+    one_tree();
     let limits = Limits {
         references: 1_048_576,
         depth: 64,
@@ -239,6 +250,13 @@ fn numbers(image: &RomtoolImage<'_>) -> Parts
     })
 }
 
+/// States that an image has no more than 2^32 names.
+fn few_names(image: &AnyImage<'_>)
+    ensures { length (names (any_view image.now).tree) ≤ 2 ^ 32 }
+{
+    let _report = image.report();
+}
+
 /// Returns the image that is open, without reading its bytes.
 pub(crate) fn image_of<'a>(image: &RomtoolImage<'a>) -> AnyImage<'a>
     requires { image.now.status ≡ 1 }
@@ -250,6 +268,9 @@ pub(crate) fn image_of<'a>(image: &RomtoolImage<'a>) -> AnyImage<'a>
         (parts_of image.now.format image.now.accessible image.now.root image.now.references
         image.now.depth) }
     ensures shallow { IsShallow (any_view result).tree }
+    ensures few { length (nodes (any_view result).tree) ≤ 2 ^ 32 }
 {
-    AnyImage::again(image.bytes, numbers(image))
+    let found = AnyImage::again(image.bytes, numbers(image));
+    few_names(&found);
+    found
 }

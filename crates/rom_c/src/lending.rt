@@ -2,12 +2,12 @@
 ghost use Rattle.std.specs.Prelude.{◌≡◌, Some, None, true, is_some, length, ◌||◌};
 ghost use Rattle.rom_tree.specs.Tree.{Node, is_directory, is_regular};
 ghost use Rattle.rom_tree.specs.Image.{HasNode, LieIn, image_node};
-ghost use Rattle.open_files.specs.Machine.{Open, fstat_on, seek_on, read_on, lend_on, map_on};
+ghost use Rattle.open_files.specs.Machine.{Open, fstat_on, seek_on, read_on, lend_on};
 ghost use Rattle.open_files.specs.Machine.{readdir_on};
 ghost use Rattle.open_files.specs.Slots.{stands, image_view};
 ghost use Rattle.image_check.specs.Any.{any_view};
 ghost use Rattle.rom_c.specs.Outcomes.{error_reported, place_reported, file_stat_reported};
-ghost use Rattle.rom_c.specs.Outcomes.{IsCopied, IsListed};
+ghost use Rattle.rom_c.specs.Outcomes.{IsCopied, IsListed, asks_nothing, mapped_reported};
 ghost use Rattle.rom_c.specs.Outcomes.{Follows, HasKindIn};
 
 use crate::answers::{RomtoolPlace, RomtoolStat, no_place, number_of, shown};
@@ -34,13 +34,27 @@ pub(crate) fn fstat_in(image: &AnyImage<'_>, opened: OpenNode) -> RomtoolStat
     shown(opened::fstat(image, opened))
 }
 
-/// Returns the offset and the number of bytes of an open file.
+/// Returns whether the bytes that are asked for are none, and the node is a file without bytes.
+fn asks_nothing(image: &AnyImage<'_>, node: NodeId, off: u64, len: u64) -> bool
+    requires { HasNode (any_view image.now) node.0 }
+    ensures { (x : Node) → image_node (any_view image.now) node.0 ≡ Some x
+        → result ≡ asks_nothing x off len }
+{
+    if !is_regular_at(image, node) {
+        return false;
+    }
+    image.stat(node).size == 0 && off == 0 && len == 0
+}
+
+/// Returns the offset and the number of bytes of an open file. No bytes of an empty file are at 0.
 pub(crate) fn map_in(image: &AnyImage<'_>, opened: OpenNode, off: u64, len: u64) -> RomtoolPlace
     requires { (o : Open Node) × (stands (image_view (any_view image.now)) opened ≡ Some o) }
     ensures { (o : Open Node) → stands (image_view (any_view image.now)) opened ≡ Some o
-        → result ≡ place_reported (map_on None
-        (any_view image.now).bytes off len o.place o.position) }
+        → result ≡ mapped_reported (any_view image.now).bytes off len o.place o.position }
 {
+    if asks_nothing(image, opened.node, off, len) {
+        return no_place(0);
+    }
     match opened::map(image, opened, off, len) {
         Ok(piece) => RomtoolPlace {
             error: 0,
@@ -94,6 +108,30 @@ pub(crate) fn read_in(
             *count = copied;
             0
         }
+        Err(error) => {
+            *count = 0;
+            error.number()
+        }
+    }
+}
+
+/// Copies bytes of an open file from `off` on, as many as fit, and sets `count` to their number.
+/// Returns 0 or an error.
+pub(crate) fn read_at_in(
+    image: &AnyImage<'_>,
+    opened: OpenNode,
+    off: u64,
+    buffer: &mut [u8],
+    count: &mut usize,
+) -> u32
+    requires { (o : Open Node) × (stands (image_view (any_view image.now)) opened ≡ Some o) }
+    ensures { (o : Open Node) → stands (image_view (any_view image.now)) opened ≡ Some o
+        → IsCopied (read_on (any_view image.now).bytes (length buffer.old) o.place off)
+        result count.new buffer.new buffer.old }
+{
+    let mut there = opened;
+    match opened::seek(image, &mut there, off) {
+        Ok(()) => read_in(image, &mut there, buffer, count),
         Err(error) => {
             *count = 0;
             error.number()

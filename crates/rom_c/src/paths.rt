@@ -1,5 +1,5 @@
 //! The calls of C on an image.
-ghost use Rattle.std.specs.Prelude.{◌≡◌, ◌≢◌, ◌⊎◌, ◌↔◌, ◌-◌, false, true, IsSome, IfSome};
+ghost use Rattle.std.specs.Prelude.{◌≡◌, ◌≢◌, ◌⊎◌, ◌↔◌, ◌-◌, false, true, Some, IsSome, IfSome};
 ghost use Rattle.std.specs.Bool.{IsTrue};
 ghost use Rattle.rom_tree.specs.Tree.{Node, node_at, is_link};
 ghost use Rattle.rom_tree.specs.Image.{stat_of};
@@ -25,11 +25,12 @@ use std::alloc::Global;
 /// Checks an image, and stores the struct that C passes to each call on it.
 ///
 /// Returns 0 if the bytes hold an image. Then its status is 1, its format is 1 (romfs), 2 (cramfs)
-/// or 3 (big-endian cramfs), and it has the numbers of the check. Otherwise the status is 0, and
+/// or 3 (big-endian cramfs), `root` is the number of the tree's root, and it has the numbers of the
+/// check. Otherwise the status is 0, and
 /// the result is 14 if the bytes have a fault, whose number and offset are in `fault` and `at` (the
 /// numbers are those of `rom_faults`), or 15 if memory was refused.
 #[unsafe(no_mangle)]
-pub extern "C" fn romtool_check<'a>(
+pub extern "C" fn romtool_check_v3<'a>(
     alloc: Global,
     image: &mut RomtoolImage<'a>,
     bytes: &'a [u8],
@@ -38,6 +39,8 @@ pub extern "C" fn romtool_check<'a>(
     ensures open { result ≡ 0 → image.new.status ≡ 1 }
     ensures tree { result ≡ 0 → (t : Node) × HasTree bytes.now usual t }
     ensures format { result ≡ 0 → IsFormat bytes.now image.new.format }
+    ensures root { result ≡ 0 → (t : Node) → HasTree bytes.now usual t
+        → node_at t image.new.root ≡ Some t }
     ensures report { result ≡ 0 → IsReported bytes.now image.new.references image.new.depth }
     ensures sound { result ≡ 0 → (image.new.fault ≡ 0) × (image.new.at ≡ 0) }
     ensures closed { result ≢ 0 → (image.new.status ≡ 0) × (image.new.format ≡ 0) }
@@ -56,7 +59,11 @@ pub extern "C" fn romtool_check<'a>(
 /// Returns the node to which a path leads; `follow` is true if a symbolic link as the last
 /// component is followed. The errors are 13 if no image is open, and those of `path_walk::walk`.
 #[unsafe(no_mangle)]
-pub extern "C" fn romtool_lookup(image: &RomtoolImage<'_>, path: &[u8], follow: bool) -> RomtoolNode
+pub extern "C" fn romtool_lookup_v3(
+    image: &RomtoolImage<'_>,
+    path: &[u8],
+    follow: bool,
+) -> RomtoolNode
     ensures closed { image.now.status ≢ 1 → result ≡ no_node_reported 13 }
     ensures leads { image.now.status ≡ 1 → (t : Node) → HasTree image.now.bytes.now usual t
         → result ≡ led_reported
@@ -74,7 +81,7 @@ pub extern "C" fn romtool_lookup(image: &RomtoolImage<'_>, path: &[u8], follow: 
 /// those of `romtool_lookup`, and 16 if more names are compared than the budget; then nothing is
 /// left of it. If no image is open, the budget stays as it is.
 #[unsafe(no_mangle)]
-pub extern "C" fn romtool_lookup_within(
+pub extern "C" fn romtool_lookup_within_v3(
     image: &RomtoolImage<'_>,
     path: &[u8],
     follow: bool,
@@ -100,7 +107,11 @@ pub extern "C" fn romtool_lookup_within(
 /// Returns the kind and numbers of the node to which a path leads; `follow` and the errors are
 /// those of `romtool_lookup`.
 #[unsafe(no_mangle)]
-pub extern "C" fn romtool_stat(image: &RomtoolImage<'_>, path: &[u8], follow: bool) -> RomtoolStat
+pub extern "C" fn romtool_stat_v3(
+    image: &RomtoolImage<'_>,
+    path: &[u8],
+    follow: bool,
+) -> RomtoolStat
     ensures closed { image.now.status ≢ 1 → result ≡ no_stat_reported 13 }
     ensures shows { image.now.status ≡ 1 → (t : Node) → HasTree image.now.bytes.now usual t
         → result ≡ shown_reported (resolution (tree_namespace image.now.bytes.now t) path.now
@@ -116,7 +127,7 @@ pub extern "C" fn romtool_stat(image: &RomtoolImage<'_>, path: &[u8], follow: bo
 /// Returns the kind and numbers of the node with this number, which a call on the same image
 /// returned. There is no look-up. The error is 13 if no image is open.
 #[unsafe(no_mangle)]
-pub extern "C" fn romtool_stat_node(image: &RomtoolImage<'_>, node: u32) -> RomtoolStat
+pub extern "C" fn romtool_stat_node_v3(image: &RomtoolImage<'_>, node: u32) -> RomtoolStat
     requires { image.now.status ≡ 1 → (t : Node) → HasTree image.now.bytes.now usual t
         → IsSome (node_at t node) }
     ensures closed { image.now.status ≢ 1 → result ≡ no_stat_reported 13 }
@@ -134,7 +145,7 @@ pub extern "C" fn romtool_stat_node(image: &RomtoolImage<'_>, node: u32) -> Romt
 /// bytes follow one another in the image. The errors are those of `romtool_lookup`, and 5 if the
 /// path does not lead to a link.
 #[unsafe(no_mangle)]
-pub extern "C" fn romtool_readlink(image: &RomtoolImage<'_>, path: &[u8]) -> RomtoolPlace
+pub extern "C" fn romtool_readlink_v3(image: &RomtoolImage<'_>, path: &[u8]) -> RomtoolPlace
     ensures closed { image.now.status ≢ 1 → result ≡ no_place_reported 13 }
     ensures text { image.now.status ≡ 1 → (t : Node) → HasTree image.now.bytes.now usual t
         → IsText (resolution (tree_namespace image.now.bytes.now t) path.now false) result }
@@ -149,7 +160,7 @@ pub extern "C" fn romtool_readlink(image: &RomtoolImage<'_>, path: &[u8]) -> Rom
 /// Returns whether a number is that of a node. If no image is open, none is. The time grows with
 /// the number of references, and no memory is taken.
 #[unsafe(no_mangle)]
-pub extern "C" fn romtool_is_node(image: &RomtoolImage<'_>, node: u32) -> bool
+pub extern "C" fn romtool_is_node_v3(image: &RomtoolImage<'_>, node: u32) -> bool
     ensures closed { image.now.status ≢ 1 → result ≡ false }
     ensures node { image.now.status ≡ 1 → (t : Node) → HasTree image.now.bytes.now usual t
         → IsTrue result ↔ IsSome (node_at t node) }
@@ -166,7 +177,7 @@ pub extern "C" fn romtool_is_node(image: &RomtoolImage<'_>, node: u32) -> bool
 /// errors are 13 if no image is open, 2 if the node is not a directory, and 1 if it has no such
 /// entry.
 #[unsafe(no_mangle)]
-pub extern "C" fn romtool_lookup_at(
+pub extern "C" fn romtool_lookup_at_v3(
     image: &RomtoolImage<'_>,
     directory: u32,
     name: &[u8],
@@ -188,7 +199,7 @@ pub extern "C" fn romtool_lookup_at(
 /// call on the same image returned; its bytes follow one another in the image. There is no
 /// look-up. The errors are 13 if no image is open, and 5 if the node is not a link.
 #[unsafe(no_mangle)]
-pub extern "C" fn romtool_readlink_node(image: &RomtoolImage<'_>, node: u32) -> RomtoolPlace
+pub extern "C" fn romtool_readlink_node_v3(image: &RomtoolImage<'_>, node: u32) -> RomtoolPlace
     requires { image.now.status ≡ 1 → (t : Node) → HasTree image.now.bytes.now usual t
         → IsSome (node_at t node) }
     ensures closed { image.now.status ≢ 1 → result ≡ no_place_reported 13 }

@@ -1,7 +1,7 @@
 /* A program on the board as firmware has it: the image in flash, a heap of its own, no C library except c/bytes.c.
  *
- * image.h, which numbers.c prints, has the image's bytes and the numbers of its check. With CHECK the image is checked on
- * the board, over c/area.c; without it the numbers are used. Prints what each call answers, and the bytes of stack that it
+ * image.h, which numbers.c prints, has the image's bytes and its description. With CHECK the image is checked on the
+ * board, over c/area.c; without it, it is opened by the description. Prints what each call answers, and the bytes of stack that it
  * took. */
 #include "romtool_heap.h"
 #include "image.h"
@@ -61,16 +61,19 @@ static void from_image(void) {
     static uint64_t area[AREA / 8];
     romtool_area(area, sizeof area);
     begin();
-    const uint32_t error = romtool_check(&opened, image.data, image.len);
+    struct romtool_image image = ROMTOOL_INIT;
+    const uint32_t error = romtool_check(&opened, image_bytes, sizeof image_bytes);
     end("check", error);
     number("heap ", (unsigned)romtool_area_most());
     number(" left ", (unsigned)romtool_area_blocks());
     number(" references ", opened.references);
+    romtool_from_numbers(&image, image_bytes, sizeof image_bytes, image_numbers);
     number(" same ", opened.root == image.root && opened.references == image.references && opened.format == image.format
         && opened.accessible == image.accessible && opened.depth == image.depth);
     put("\n");
 #else
-    opened = image;
+    begin();
+    end("numbers", romtool_from_numbers(&opened, image_bytes, sizeof image_bytes, image_numbers));
 #endif
 }
 
@@ -106,6 +109,9 @@ static void run(void) {
     begin();
     const struct romtool_stat found = romtool_stat_str(&opened, "/d/link", true);
     end("stat", found.error);
+    begin();
+    const uint64_t names = romtool_links(&opened, opened.root);
+    end("links", names != 1);
 #endif
     number("sum ", sum);
     number(" ", copied);

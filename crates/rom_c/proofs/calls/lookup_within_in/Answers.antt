@@ -7,7 +7,7 @@ use Rattle.path_walk.specs.Resolution.{resolution, tree_namespace}
 use Rattle.path_walk.specs.Compared.{names_compared, IsRefusedBy, Leaves}
 use Rattle.image_check.specs.Any.{any_view}
 use Rattle.rom_c.specs.declared.answers.RomtoolNode.{RomtoolNode}
-use Rattle.rom_c.specs.Reported.{no_node, led_reported, within_reported}
+use Rattle.rom_c.specs.Reported.{no_node, led_reported}
 use Rattle.rom_c.proofs.Within.{reported_left, reported_none, left_of, none_left}
 use Rattle.rom_c.proofs.calls.lookup_within_in.Goals as goal
 

@@ -1,4 +1,4 @@
-use Rattle.std.proofs.Common.{◌≡◌, ℕ, List, Some, true, false, sym, ap, ◌∙◌}
+use Rattle.std.proofs.Common.{◌≡◌, ℕ, List, true, false, sym, ap, ◌∙◌}
 use Rattle.std.specs.Prelude.{◌||◌, is_some, IfSome}
 use Rattle.rom_tree.specs.Tree.{Node, node_at, is_directory, is_regular}
 use Rattle.rom_tree.proofs.Named.{node_number, node_by}

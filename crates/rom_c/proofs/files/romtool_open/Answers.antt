@@ -1,4 +1,0 @@
-use Rattle.rom_c.proofs.files.romtool_open.Goals as goal
-
-pub returns-clause-opened : goal.returns-clause-opened
-returns-clause-opened c = λ z. c.open_in.ensures.opened

@@ -1,0 +1,42 @@
+use Rattle.std.proofs.Common.{ℕ, List, ap, ◌∙◌, length}
+use Rattle.std.specs.Prelude.{is_some}
+use Rattle.rom_tree.specs.Tree.{Node}
+use Rattle.open_files.specs.Machine.{Open, read_on}
+use Rattle.image_check.specs.Any.{any_view}
+use Rattle.image_check.specs.Parts.{tree_of_parts}
+use Rattle.rom_c.specs.Files.{parts_in}
+use Rattle.rom_c.specs.Opened.{stands_at}
+use Rattle.rom_c.specs.Outcomes.{IsCopied}
+use Rattle.rom_c.proofs.Alone.{in_tree, IsCopied-prop}
+use Rattle.rom_c.proofs.Standing.{some_by, same, kept}
+use Rattle.rom_c.proofs.files.romtool_read_at_v3.Goals as goal
+
+pub read_at_in-requires : goal.read_at_in-requires
+read_at_in-requires c =
+    let f = c.args.file.now in
+    let all = f.image.bytes.now in
+    let n = parts_in f.image in
+    let m = any_view c.image_of.result in
+    let z = c.if-not-is_open.ensures.open in
+    let o = some_by (stands_at all n f.node f.position) (f.stands z.0 z.1) in
+    let e = same m all n c.node_of.result f.node f.position c.image_of.ensures.cursors c.node_of.ensures.node
+    c.node_of.ensures.position in
+    (o.0, e ∙ (kept m all n f.node f.position c.image_of.ensures.tree ∙ o.1))
+
+pub returns-clause-read : goal.returns-clause-read
+returns-clause-read c = λ z t h.
+    let f = c.args.file.now in
+    let all = f.image.bytes.now in
+    let n = parts_in f.image in
+    let m = any_view c.image_of.result in
+    let K : List ℕ → Node → Open Node → Type 0 =
+    λ b u o. IsCopied (read_on b (length c.args.buffer.now) o.place c.args.off) c.read_at_in.result
+    c.read_at_in.new.count c.read_at_in.new.buffer c.args.buffer.now in
+    let s = ap is_some (kept m all n f.node f.position c.image_of.ensures.tree) ∙ f.stands z.0 z.1 in
+    let e = same m all n c.node_of.result f.node f.position c.image_of.ensures.cursors c.node_of.ensures.node
+    c.node_of.ensures.position in
+    in_tree K all m.bytes t (tree_of_parts all n) m.tree n f.node f.position c.one_tree.ensures
+    (λ o. IsCopied-prop (read_on all (length c.args.buffer.now) o.place c.args.off) c.read_at_in.result
+    c.read_at_in.new.count c.read_at_in.new.buffer c.args.buffer.now)
+    (f.image.tree z.0) h
+    c.image_of.ensures.bytes c.image_of.ensures.tree s (λ o k. c.read_at_in.ensures o (e ∙ k))
