@@ -64,43 +64,54 @@ romtool_top = with_rule (record
 abbrev pub sub : Text → List Rule → Shape
 sub name rules = shape_with name (rules ++ explain_rule ∷ [])
 
+-- the option that every subcommand has that reads an image
+abbrev pub most_rule : Rule
+most_rule = option_rule (codes "max-size")
+
 -- the subcommands that read one image or two
 abbrev pub reading_shapes : List Shape
 reading_shapes =
-    sub (codes "check") (value_rule (codes "image") ∷ [])
-    ∷ sub (codes "list") (value_rule (codes "image") ∷ [])
-    ∷ sub (codes "info") (value_rule (codes "image") ∷ option_rule (codes "size") ∷ [])
+    sub (codes "check") (flag_rule (codes "each") ∷ most_rule ∷ several_rule (codes "image")
+    ∷ [])
+    ∷ sub (codes "list") (value_rule (codes "image") ∷ most_rule ∷ [])
+    ∷ sub (codes "info") (value_rule (codes "image") ∷ option_rule (codes "size") ∷ most_rule
+    ∷ [])
     ∷ sub (codes "map") (value_rule (codes "image") ∷ option_rule (codes "base")
-    ∷ flag_rule (codes "all") ∷ flag_rule (codes "c") ∷ option_rule (codes "prefix")
-    ∷ flag_rule (codes "svg") ∷ [])
-    ∷ sub (codes "which") (value_rule (codes "image") ∷ option_rule (codes "base")
+    ∷ flag_rule (codes "all") ∷ flag_rule (codes "c") ∷ flag_rule (codes "ld")
+    ∷ option_rule (codes "prefix") ∷ repeated_rule (codes "only") ∷ flag_rule (codes "svg")
+    ∷ most_rule ∷ [])
+    ∷ sub (codes "which") (value_rule (codes "image") ∷ option_rule (codes "base") ∷ most_rule
     ∷ several_rule (codes "address") ∷ [])
     ∷ sub (codes "diff") (value_rule (codes "old") ∷ value_rule (codes "new")
-    ∷ flag_rule (codes "tree") ∷ [])
-    ∷ sub (codes "digest") (value_rule (codes "file") ∷ flag_rule (codes "image") ∷ [])
+    ∷ flag_rule (codes "tree") ∷ most_rule ∷ [])
+    ∷ sub (codes "digest") (value_rule (codes "file") ∷ flag_rule (codes "image") ∷ most_rule
+    ∷ [])
     ∷ sub (codes "verify") (value_rule (codes "image") ∷ value_rule (codes "dump")
-    ∷ option_rule (codes "offset") ∷ [])
-    ∷ sub (codes "cat") (value_rule (codes "image") ∷ value_rule (codes "path") ∷ [])
-    ∷ sub (codes "linux") (value_rule (codes "image") ∷ [])
+    ∷ option_rule (codes "offset") ∷ most_rule ∷ [])
+    ∷ sub (codes "numbers") (value_rule (codes "image") ∷ flag_rule (codes "c") ∷ most_rule ∷ [])
+    ∷ sub (codes "cat") (value_rule (codes "image") ∷ value_rule (codes "path") ∷ most_rule ∷ [])
+    ∷ sub (codes "linux") (value_rule (codes "image") ∷ most_rule ∷ [])
     ∷ sub (codes "xip") (value_rule (codes "image") ∷ option_rule (codes "base")
-    ∷ flag_rule (codes "no-mmu") ∷ flag_rule (codes "advice") ∷ [])
+    ∷ flag_rule (codes "no-mmu") ∷ flag_rule (codes "advice") ∷ most_rule ∷ [])
     ∷ []
 
 -- the subcommands that serve and build images
 abbrev pub building_shapes : List Shape
 building_shapes =
-    sub (codes "serve") (value_rule (codes "image") ∷ [])
-    ∷ sub (codes "space") (few_rule (codes "image") ∷ [])
+    sub (codes "serve") (value_rule (codes "image") ∷ most_rule ∷ [])
+    ∷ sub (codes "space") (most_rule ∷ few_rule (codes "image") ∷ [])
     ∷ sub (codes "build") (value_rule (codes "format") ∷ value_rule (codes "manifest")
     ∷ value_rule (codes "out") ∷ flag_rule (codes "no-follow") ∷ flag_rule (codes "strict")
-    ∷ flag_rule (codes "xip") ∷ option_rule (codes "max-size")
-    ∷ lettered_rule 67 (codes "directory")
+    ∷ flag_rule (codes "xip") ∷ option_rule (codes "max-size") ∷ option_rule (codes "size")
+    ∷ option_rule (codes "fill") ∷ lettered_rule 67 (codes "directory")
     ∷ option_rule (codes "depfile") ∷ [])
     ∷ sub (codes "pack") (value_rule (codes "format") ∷ several_rule (codes "folder")
     ∷ repeated_rule (codes "align") ∷ option_rule (codes "owner") ∷ flag_rule (codes "all-root")
     ∷ repeated_rule (codes "exclude") ∷ option_rule (codes "volume")
-    ∷ option_rule (codes "devices") ∷ flag_rule (codes "one-file-system")
+    ∷ option_rule (codes "devices") ∷ option_rule (codes "device-table")
+    ∷ flag_rule (codes "dedupe") ∷ flag_rule (codes "one-file-system")
     ∷ flag_rule (codes "strict") ∷ flag_rule (codes "xip") ∷ option_rule (codes "max-size")
+    ∷ option_rule (codes "size") ∷ option_rule (codes "fill")
     ∷ option_rule (codes "depfile") ∷ option_rule (codes "manifest") ∷ flag_rule (codes "quiet")
     ∷ [])
     ∷ []
@@ -112,11 +123,12 @@ other_shapes =
     ∷ option_rule (codes "for") ∷ repeated_rule (codes "align") ∷ option_rule (codes "owner")
     ∷ flag_rule (codes "all-root") ∷ repeated_rule (codes "exclude")
     ∷ option_rule (codes "volume") ∷ option_rule (codes "devices")
+    ∷ option_rule (codes "device-table") ∷ flag_rule (codes "dedupe")
     ∷ lettered_rule 111 (codes "output") ∷ option_rule (codes "depfile")
     ∷ flag_rule (codes "one-file-system") ∷ flag_rule (codes "strict") ∷ [])
     ∷ sub (codes "extract") (value_rule (codes "image") ∷ value_rule (codes "folder")
     ∷ option_rule (codes "align") ∷ flag_rule (codes "owners") ∷ flag_rule (codes "no-sync")
-    ∷ [])
+    ∷ most_rule ∷ [])
     ∷ sub (codes "version") ([])
     ∷ []
 

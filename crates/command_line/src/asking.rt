@@ -5,16 +5,17 @@ ghost use Rattle.command_line.specs.Numbers.{AreAddresses, AreAligns, IsAddress,
 ghost use Rattle.formats.specs.Format.{name_of};
 ghost use Rattle.command_line.specs.Numbers.{IsAlignOf, IsOptional, IsSize, NotesAlign};
 ghost use Rattle.command_line.specs.Words.{ArePlaces, AreTexts, HasNoValueForAll, IsAskedBy};
-ghost use Rattle.command_line.specs.Words.{IsDirectory, IsFlag, IsForm, IsOffsetOf, IsOwnerOf};
-ghost use Rattle.command_line.specs.Words.{IsPackedBuild, IsPackedScan, IsPlainScan};
+ghost use Rattle.command_line.specs.Words.{IsDirectory, IsFill, IsFlag, IsForm, IsOffsetOf};
+ghost use Rattle.command_line.specs.Words.{IsOwnerOf, IsPackedBuild, IsPackedScan, IsPadding};
+ghost use Rattle.command_line.specs.Words.{IsPlainScan, IsSharedIn};
 ghost use Rattle.command_line.specs.Words.{texts_or_none, word_of};
 ghost use Rattle.command_line.specs.declared.request.Request.TheVariants as request;
 
 use crate::error::{WordsError, Wrong};
 use crate::numbers::{address_named, align_named, align_rule_named, owner_named, size_named};
 use crate::request::{
-    AlignRule, Build, Cat, Diff, Digest, Extract, Info, Map, MapForm, Owner, Pack, Request, Scan,
-    ScanAll, Verify, Which, Xip,
+    AlignRule, Build, Cat, Diff, Digest, Extract, Info, Map, MapForm, Numbers, Owner, Pack,
+    Padding, Request, Scan, ScanAll, Verify, Which, Xip,
 };
 use arrayvec::ArrayVec;
 use clap::ArgMatches;
@@ -75,6 +76,14 @@ fn size_of<'a>(values: &ArgMatches<'a>, name: &str) -> Result<Option<u64>, Words
     }
 }
 
+/// Returns the most bytes of an image that is read, if they are given.
+pub(crate) fn most_of<'a>(values: &ArgMatches<'a>) -> Result<Option<u64>, WordsError<'a>>
+    ensures { IfOk result (IsOptional IsSize
+        (first_of (codes "max-size") (rows_of (found_of values.now)))) }
+{
+    size_of(values, "max-size")
+}
+
 /// Returns the address that a word names.
 fn address<'a>(word: &'a str) -> Result<u64, WordsError<'a>>
     ensures { IfOk result (IsAddress word.now) }
@@ -110,6 +119,25 @@ fn texts_of<'a>(
     Ok(texts)
 }
 
+/// Returns the check that is asked for: of one image, or of each of several.
+fn check_of<'a>(alloc: Global, values: &ArgMatches<'a>) -> Result<Request<'a>, WordsError<'a>>
+    ensures asked { IfOk result (IsAskedBy (rows_of (found_of values.now))) }
+    ensures word { IfOk result (λ r. word_of r ≡ codes "check") }
+{
+    let Some(names) = values_of(values, "image") else {
+        return Err(Wrong::Missing.into());
+    };
+    if is_given(values, "each") {
+        let mut images = Vec::new(alloc);
+        images.extend_from_slice(names)?;
+        return Ok(Request::CheckEach(images));
+    }
+    match names {
+        [image] => Ok(Request::Check(*image)),
+        _ => Err(Wrong::Images.into()),
+    }
+}
+
 /// Returns the facts that are asked for.
 fn info_of<'a>(values: &ArgMatches<'a>) -> Result<Info<'a>, WordsError<'a>>
     ensures { IfOk result (λ i. IsAskedBy (rows_of (found_of values.now)) (request.Info i)) }
@@ -119,30 +147,55 @@ fn info_of<'a>(values: &ArgMatches<'a>) -> Result<Info<'a>, WordsError<'a>>
     Ok(Info { image, size })
 }
 
+/// Returns the form of a map of all files, whose names have no prefix.
+fn form_of_all<'a>(values: &ArgMatches<'a>) -> Result<MapForm<'a>, WordsError<'a>>
+    ensures { IfOk result (IsForm (rows_of (found_of values.now))) }
+{
+    if is_given(values, "c") || is_given(values, "ld") {
+        return Err(Wrong::Forms.into());
+    }
+    if value_of(values, "prefix").is_some() || value_of(values, "only").is_some() {
+        return Err(Wrong::Forms.into());
+    }
+    match (is_given(values, "all"), is_given(values, "svg")) {
+        (false, false) => Ok(MapForm::Files),
+        (true, false) => Ok(MapForm::All),
+        (false, true) => Ok(MapForm::Svg),
+        (true, true) => Err(Wrong::Forms.into()),
+    }
+}
+
 /// Returns the form of a map.
 fn form_of<'a>(values: &ArgMatches<'a>) -> Result<MapForm<'a>, WordsError<'a>>
     ensures { IfOk result (IsForm (rows_of (found_of values.now))) }
 {
-    let all = is_given(values, "all");
     let c = is_given(values, "c");
-    let svg = is_given(values, "svg");
-    match (all, c, svg, value_of(values, "prefix")) {
-        (false, false, false, None) => Ok(MapForm::Files),
-        (true, false, false, None) => Ok(MapForm::All),
-        (false, true, false, prefix) => Ok(MapForm::C(prefix)),
-        (false, false, true, None) => Ok(MapForm::Svg),
+    let ld = is_given(values, "ld");
+    let prefix = value_of(values, "prefix");
+    if is_given(values, "all") || is_given(values, "svg") || !(c || ld) {
+        return form_of_all(values);
+    }
+    match (c, ld) {
+        (true, false) => Ok(MapForm::C(prefix)),
+        (false, true) => Ok(MapForm::Script(prefix)),
         _ => Err(Wrong::Forms.into()),
     }
 }
 
 /// Returns the map that is asked for.
-fn map_of<'a>(values: &ArgMatches<'a>) -> Result<Map<'a>, WordsError<'a>>
+fn map_of<'a>(alloc: Global, values: &ArgMatches<'a>) -> Result<Map<'a>, WordsError<'a>>
     ensures { IfOk result (λ m. IsAskedBy (rows_of (found_of values.now)) (request.Map m)) }
 {
     let image = wanted(values, "image")?;
     let base = base_of(values)?;
     let form = form_of(values)?;
-    Ok(Map { image, base, form })
+    let only = texts_of(alloc, values, "only")?;
+    Ok(Map {
+        image,
+        base,
+        form,
+        only,
+    })
 }
 
 /// Returns the addresses that are given.
@@ -215,6 +268,15 @@ fn verify_of<'a>(values: &ArgMatches<'a>) -> Result<Verify<'a>, WordsError<'a>>
     })
 }
 
+/// Returns the image of which the description is asked for, and its form.
+fn numbers_of<'a>(values: &ArgMatches<'a>) -> Result<Numbers<'a>, WordsError<'a>>
+    ensures { IfOk result (λ n. IsAskedBy (rows_of (found_of values.now)) (request.Numbers n)) }
+{
+    let image = wanted(values, "image")?;
+    let is_array = is_given(values, "c");
+    Ok(Numbers { image, is_array })
+}
+
 /// Returns the file of an image that is asked for.
 fn cat_of<'a>(values: &ArgMatches<'a>) -> Result<Cat<'a>, WordsError<'a>>
     ensures { IfOk result (λ c. IsAskedBy (rows_of (found_of values.now)) (request.Cat c)) }
@@ -259,6 +321,36 @@ fn sources_of<'a>(values: &ArgMatches<'a>) -> Result<Option<&'a str>, WordsError
     }
 }
 
+/// Returns the value of the bytes after an image: 255 if none is given.
+fn fill_of<'a>(values: &ArgMatches<'a>) -> Result<u8, WordsError<'a>>
+    ensures { IfOk result (IsFill (first_of (codes "fill") (rows_of (found_of values.now)))) }
+{
+    let Some(word) = value_of(values, "fill") else {
+        return Ok(255);
+    };
+    let Some(value) = size_named(word) else {
+        return Err(Wrong::Byte(word).into());
+    };
+    match u8::try_from(value) {
+        Ok(byte) => Ok(byte),
+        Err(_) => Err(Wrong::Byte(word).into()),
+    }
+}
+
+/// Returns what follows an image in its file, if a size is given.
+fn padding_of<'a>(values: &ArgMatches<'a>) -> Result<Option<Padding>, WordsError<'a>>
+    ensures { IfOk result (IsPadding (rows_of (found_of values.now))) }
+{
+    match size_of(values, "size")? {
+        Some(size) => Ok(Some(Padding {
+            size,
+            fill: fill_of(values)?,
+        })),
+        None if value_of(values, "fill").is_some() => Err(Wrong::FillWithoutSize.into()),
+        None => Ok(None),
+    }
+}
+
 /// Returns the build that is asked for.
 fn build_of<'a>(values: &ArgMatches<'a>) -> Result<Build<'a>, WordsError<'a>>
     ensures { IfOk result (λ b. IsAskedBy (rows_of (found_of values.now)) (request.Build b)) }
@@ -267,6 +359,7 @@ fn build_of<'a>(values: &ArgMatches<'a>) -> Result<Build<'a>, WordsError<'a>>
     let manifest = wanted(values, "manifest")?;
     let out = wanted(values, "out")?;
     let max_size = size_of(values, "max-size")?;
+    let padding = padding_of(values)?;
     let sources = sources_of(values)?;
     Ok(Build {
         format,
@@ -276,6 +369,7 @@ fn build_of<'a>(values: &ArgMatches<'a>) -> Result<Build<'a>, WordsError<'a>>
         strict: is_given(values, "strict"),
         xip: is_given(values, "xip"),
         max_size,
+        padding,
         sources,
         depfile: value_of(values, "depfile"),
     })
@@ -351,6 +445,19 @@ fn wished_owner<'a>(values: &ArgMatches<'a>) -> Result<Option<Owner>, WordsError
     }
 }
 
+/// Returns whether equal files share their contents, which only cramfs can store.
+fn dedupe_of<'a>(values: &ArgMatches<'a>, format: Option<Format>) -> Result<bool, WordsError<'a>>
+    ensures given { IfOk result (IsFlag (rows_of (found_of values.now)) (codes "dedupe")) }
+    ensures shared { IfOk result (λ d. IsSharedIn d format) }
+{
+    let dedupe = is_given(values, "dedupe");
+    match format {
+        Some(Format::Cramfs) | Some(Format::CramfsBig) => Ok(dedupe),
+        _ if dedupe => Err(Wrong::Dedupe.into()),
+        _ => Ok(false),
+    }
+}
+
 /// Returns the manifest of directories as they are, which `--all` asks for.
 fn scan_all_of<'a>(alloc: Global, values: &ArgMatches<'a>) -> Result<ScanAll<'a>, WordsError<'a>>
     requires { first_of (codes "all") (rows_of (found_of values.now)) ≡ Some (codes "true") }
@@ -367,6 +474,7 @@ fn scan_all_of<'a>(alloc: Global, values: &ArgMatches<'a>) -> Result<ScanAll<'a>
     if depfile.is_some() && output.is_none() {
         return Err(Wrong::DepfileWithoutOutput.into());
     }
+    let dedupe = dedupe_of(values, format)?;
     let aligns = aligns_of(alloc, values)?;
     let owner = wished_owner(values)?;
     Ok(ScanAll {
@@ -378,6 +486,8 @@ fn scan_all_of<'a>(alloc: Global, values: &ArgMatches<'a>) -> Result<ScanAll<'a>
         excludes,
         volume: value_of(values, "volume"),
         devices: value_of(values, "devices"),
+        device_table: value_of(values, "device-table"),
+        dedupe,
         output,
         depfile,
         one_file_system: is_given(values, "one-file-system"),
@@ -414,6 +524,7 @@ fn packed_build<'a>(
         × IsPackedBuild (rows_of (found_of values.now)) b) }
 {
     let max_size = size_of(values, "max-size")?;
+    let padding = padding_of(values)?;
     let xip = is_given(values, "xip");
     Ok(Build {
         format,
@@ -423,6 +534,7 @@ fn packed_build<'a>(
         strict: is_given(values, "strict"),
         xip,
         max_size,
+        padding,
         sources: None,
         depfile: value_of(values, "depfile"),
     })
@@ -439,6 +551,7 @@ fn packed_scan<'a>(
         × IsPackedScan (rows_of (found_of values.now)) s) }
 {
     let patterns = texts_of(alloc, values, "exclude")?;
+    let dedupe = dedupe_of(values, Some(format))?;
     let aligns = aligns_of(alloc, values)?;
     let owner = wished_owner(values)?;
     Ok(ScanAll {
@@ -450,6 +563,8 @@ fn packed_scan<'a>(
         excludes: patterns,
         volume: value_of(values, "volume"),
         devices: value_of(values, "devices"),
+        device_table: value_of(values, "device-table"),
+        dedupe,
         output: value_of(values, "manifest"),
         depfile: None,
         one_file_system: is_given(values, "one-file-system"),
@@ -489,6 +604,8 @@ fn value_with_all(values: &ArgMatches<'_>) -> Option<&'static str>
         Some("volume")
     } else if value_of(values, "devices").is_some() {
         Some("devices")
+    } else if value_of(values, "device-table").is_some() {
+        Some("device-table")
     } else if value_of(values, "output").is_some() {
         Some("output")
     } else if value_of(values, "depfile").is_some() {
@@ -506,6 +623,8 @@ fn option_with_all(values: &ArgMatches<'_>) -> Option<&'static str>
         Some("all-root")
     } else if is_given(values, "strict") {
         Some("strict")
+    } else if is_given(values, "dedupe") {
+        Some("dedupe")
     } else {
         value_with_all(values)
     }
@@ -596,14 +715,15 @@ fn reading<'a>(
     ensures word { IfOk result (λ o. IfSome o (λ r. name.now ≡ word_of r)) }
 {
     Ok(Some(match name {
-        "check" => Request::Check(wanted(values, "image")?),
+        "check" => check_of(alloc, values)?,
         "list" => Request::List(wanted(values, "image")?),
         "info" => Request::Info(info_of(values)?),
-        "map" => Request::Map(map_of(values)?),
+        "map" => Request::Map(map_of(alloc, values)?),
         "which" => Request::Which(which_of(alloc, values)?),
         "diff" => Request::Diff(diff_of(values)?),
         "digest" => Request::Digest(digest_of(values)?),
         "verify" => Request::Verify(verify_of(values)?),
+        "numbers" => Request::Numbers(numbers_of(values)?),
         "cat" => Request::Cat(cat_of(values)?),
         "linux" => Request::Linux(wanted(values, "image")?),
         "xip" => Request::Xip(xip_of(values)?),

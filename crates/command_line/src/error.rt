@@ -22,8 +22,11 @@ pub enum Wrong<'a> {
     Size(&'a str),
     /// The word is no owner and group.
     Owner(&'a str),
-    /// The map was asked for in several forms, or a prefix was given without `--c`.
+    /// The map was asked for in several forms, or a prefix or a pattern was given without `--c` and
+    /// `--ld`.
     Forms,
+    /// Several images are to be checked without `--each`.
+    Images,
     /// The option of this name was given to a scan without `--all`.
     WithoutAll(&'static str),
     /// A scan without `--all` has several directories.
@@ -32,6 +35,12 @@ pub enum Wrong<'a> {
     Owners,
     /// The directory of the sources has an empty name.
     NoDirectory,
+    /// The word is no byte.
+    Byte(&'a str),
+    /// A byte after the image is given, and no size.
+    FillWithoutSize,
+    /// Equal files are to share contents in a format that is not cramfs, or in none.
+    Dedupe,
     /// A strict scan has no format.
     StrictWithoutFormat,
     /// A rule for make is asked for, and no file for the manifest.
@@ -83,13 +92,22 @@ impl Display for Wrong<'_> {
             Wrong::Forms => {
                 write!(
                     f,
-                    "a map has one of '--all', '--c' and '--svg', and '--prefix' goes with '--c'"
+                    "a map has one of '--all', '--c', '--ld' and '--svg'; '--prefix' and '--only' go with '--c' and '--ld'"
                 )
             }
+            Wrong::Images => write!(f, "several images are checked with '--each' only"),
             Wrong::WithoutAll(name) => write!(f, "the option '--{name}' goes with '--all' only"),
             Wrong::Directories => write!(f, "several directories are scanned with '--all' only"),
             Wrong::Owners => write!(f, "'--owner' and '--all-root' do not go together"),
             Wrong::NoDirectory => write!(f, "DIR is empty; '.' is the current directory"),
+            Wrong::Byte(word) => {
+                write!(
+                    f,
+                    "BYTE is a number up to 255, such as 0xff, and not {word:?}"
+                )
+            }
+            Wrong::FillWithoutSize => write!(f, "'--fill' goes with '--size' only"),
+            Wrong::Dedupe => write!(f, "'--dedupe' is for cramfs and cramfs-be"),
             Wrong::StrictWithoutFormat => write!(f, "'--strict' goes with '--for' only"),
             Wrong::DepfileWithoutOutput => write!(f, "'--depfile' goes with '--output' only"),
             Wrong::NoOut => write!(f, "OUT is missing: pack FORMAT DIR.. OUT"),

@@ -17,7 +17,7 @@ pub use commands::VERSION;
 pub use error::{WordsError, Wrong};
 pub use numbers::size_named;
 pub use request::{
-    AlignRule, Build, Cat, Diff, Digest, Extract, Info, Map, MapForm, Owner, Pack, Request, Scan,
-    ScanAll, Verify, Which, Xip,
+    AlignRule, Build, Cat, Diff, Digest, Extract, Info, Limited, Map, MapForm, Numbers, Owner,
+    Pack, Padding, Request, Scan, ScanAll, Verify, Which, Xip,
 };
 pub use words::{is_explain, read};

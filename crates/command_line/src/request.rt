@@ -2,6 +2,13 @@
 use arrayvec::ArrayVec;
 use formats::Format;
 
+/// A request, and the most bytes of an image that is read for it, if they are given.
+#[derive(Drop)]
+pub struct Limited<'a> {
+    pub request: Request<'a>,
+    pub most: Option<u64>,
+}
+
 /// What the words ask for.
 #[derive(Drop)]
 pub enum Request<'a> {
@@ -11,6 +18,8 @@ pub enum Request<'a> {
     Version,
     /// To check the image in this file.
     Check(&'a str),
+    /// To check the image in each of these files, at least one.
+    CheckEach(Vec<&'a str>),
     /// To list the image in this file.
     List(&'a str),
     /// To print the facts of an image.
@@ -25,6 +34,8 @@ pub enum Request<'a> {
     Digest(Digest<'a>),
     /// To compare a dump of a flash with an image.
     Verify(Verify<'a>),
+    /// To print the description of an image.
+    Numbers(Numbers<'a>),
     /// To print the bytes of a file in an image.
     Cat(Cat<'a>),
     /// To print what Linux misreads in the image in this file.
@@ -56,11 +67,13 @@ pub struct Info<'a> {
 }
 
 /// A map of an image whose first byte has this address.
-#[derive(Clone, Copy)]
+#[derive(Drop)]
 pub struct Map<'a> {
     pub image: &'a str,
     pub base: u64,
     pub form: MapForm<'a>,
+    /// The patterns of the files that a header or a script has; all files if there are none.
+    pub only: Vec<&'a str>,
 }
 
 /// The form of a map.
@@ -72,6 +85,8 @@ pub enum MapForm<'a> {
     All,
     /// A header for C. Its names begin with this prefix, if one is given.
     C(Option<&'a str>),
+    /// A script for a linker. Its names begin with this prefix, if one is given.
+    Script(Option<&'a str>),
     /// A picture.
     Svg,
 }
@@ -109,6 +124,14 @@ pub struct Verify<'a> {
     pub offset: u64,
 }
 
+/// The description of an image, from which firmware opens it without a check.
+#[derive(Clone, Copy)]
+pub struct Numbers<'a> {
+    pub image: &'a str,
+    /// Whether it is printed as an array of C, and not as its bytes.
+    pub is_array: bool,
+}
+
 /// The bytes of the file to which a path leads, in the image in a file.
 #[derive(Clone, Copy)]
 pub struct Cat<'a> {
@@ -142,10 +165,21 @@ pub struct Build<'a> {
     pub xip: bool,
     /// The most bytes that the image may have, if it is given.
     pub max_size: Option<u64>,
+    /// What follows the image in its file, if something does.
+    pub padding: Option<Padding>,
     /// The directory from which the sources' names start, if one is given.
     pub sources: Option<&'a str>,
     /// The file for the names of the files that the image is made of, for `make`.
     pub depfile: Option<&'a str>,
+}
+
+/// The bytes after an image, with which its file has the size of a partition.
+#[derive(Clone, Copy, Debug, PartialEq, Eq)]
+pub struct Padding {
+    /// The number of bytes of the file.
+    pub size: u64,
+    /// The value of each byte after the image.
+    pub fill: u8,
 }
 
 /// A manifest of the names and the contents below a directory.
@@ -175,6 +209,10 @@ pub struct ScanAll<'a> {
     pub volume: Option<&'a str>,
     /// The file of a manifest whose devices, FIFOs, sockets, directories and links are added.
     pub devices: Option<&'a str>,
+    /// The file of a table of devices as `makedevs` reads it, whose devices are added.
+    pub device_table: Option<&'a str>,
+    /// Whether files with equal bytes share their contents.
+    pub dedupe: bool,
     /// The file for the manifest, instead of standard output.
     pub output: Option<&'a str>,
     /// The file for a rule for make, if one is asked for.

@@ -52,6 +52,27 @@ const IMAGE: Word<'static> = Word {
     help: "The file of the image",
 };
 
+const CHECKED: Word<'static> = Word {
+    kind: Kind::Several,
+    name: "image",
+    shown: "IMAGE",
+    help: "The file of the image; with --each also several",
+};
+
+const EACH: Word<'static> = Word {
+    kind: Kind::Flag,
+    name: "each",
+    shown: "",
+    help: "Checks several images, each after a line with its name",
+};
+
+const MOST: Word<'static> = Word {
+    kind: Kind::Option,
+    name: "max-size",
+    shown: "N",
+    help: "Reads no image that states more than N bytes, such as 64K, 2M, 1G or 0x10000",
+};
+
 const SIZE: Word<'static> = Word {
     kind: Kind::Option,
     name: "size",
@@ -80,11 +101,32 @@ const C_HEADER: Word<'static> = Word {
     help: "Prints a header for C with the address, the length and the path of each file",
 };
 
+const ARRAY: Word<'static> = Word {
+    kind: Kind::Flag,
+    name: "c",
+    shown: "",
+    help: "Prints an array of C, and not the 48 bytes themselves",
+};
+
+const SCRIPT: Word<'static> = Word {
+    kind: Kind::Flag,
+    name: "ld",
+    shown: "",
+    help: "Prints a script for a linker that provides the address and the length of each file",
+};
+
 const PREFIX: Word<'static> = Word {
     kind: Kind::Option,
     name: "prefix",
     shown: "NAME",
-    help: "With --c: the prefix of the names in the header",
+    help: "With --c or --ld: the prefix of the names",
+};
+
+const ONLY: Word<'static> = Word {
+    kind: Kind::Repeated,
+    name: "only",
+    shown: "GLOB",
+    help: "With --c or --ld: only the files whose paths match",
 };
 
 const SVG: Word<'static> = Word {
@@ -227,6 +269,20 @@ const MAX_SIZE: Word<'static> = Word {
     help: "Refuses an image of more than N bytes, such as 64K, 2M, 1G or 0x10000",
 };
 
+const PARTITION: Word<'static> = Word {
+    kind: Kind::Option,
+    name: "size",
+    shown: "N",
+    help: "Fills the file up to N bytes, those of a partition; a larger image is refused",
+};
+
+const FILL: Word<'static> = Word {
+    kind: Kind::Option,
+    name: "fill",
+    shown: "BYTE",
+    help: "With --size: the value of each byte after the image; the default is 0xff",
+};
+
 const DIRECTORY: Word<'static> = Word {
     kind: Kind::Lettered('C'),
     name: "directory",
@@ -308,7 +364,21 @@ const DEVICES: Word<'static> = Word {
     kind: Kind::Option,
     name: "devices",
     shown: "FILE",
-    help: "With --all: adds the devices and other special lines of a manifest",
+    help: "With --all: adds the devices and other special lines of a manifest, and sets modes and owners",
+};
+
+const DEVICE_TABLE: Word<'static> = Word {
+    kind: Kind::Option,
+    name: "device-table",
+    shown: "FILE",
+    help: "With --all: adds the devices of a table for makedevs, and sets modes and owners by it",
+};
+
+const DEDUPE: Word<'static> = Word {
+    kind: Kind::Flag,
+    name: "dedupe",
+    shown: "",
+    help: "With --all, for cramfs: stores the contents of equal files once",
 };
 
 const OUTPUT: Word<'static> = Word {
@@ -378,7 +448,21 @@ const DEVICES_PACKED: Word<'static> = Word {
     kind: Kind::Option,
     name: "devices",
     shown: "FILE",
-    help: "Adds the devices and other special lines of a manifest",
+    help: "Adds the devices and other special lines of a manifest, and sets modes and owners",
+};
+
+const TABLE_PACKED: Word<'static> = Word {
+    kind: Kind::Option,
+    name: "device-table",
+    shown: "FILE",
+    help: "Adds the devices of a table for makedevs, and sets modes and owners by it",
+};
+
+const DEDUPE_PACKED: Word<'static> = Word {
+    kind: Kind::Flag,
+    name: "dedupe",
+    shown: "",
+    help: "In cramfs: stores the contents of equal files once",
 };
 
 const STRICT_PACK: Word<'static> = Word {
@@ -432,61 +516,76 @@ const ALIGN_AGAIN: Word<'static> = Word {
 
 /// The subcommands that read one image or two. Help shows them first, and then those of the next
 /// tables. (One table of all subcommands takes the prover much longer than several.)
-pub const READING: [Subcommand<'static>; 11] = [
+pub const READING: [Subcommand<'static>; 12] = [
     Subcommand {
         name: "check",
         about: "Reports whether a file holds a valid image, or which fault it has",
-        words: &[IMAGE],
+        words: &[EACH, MOST, CHECKED],
     },
     Subcommand {
         name: "list",
         about: "Prints a line for each name in an image",
-        words: &[IMAGE],
+        words: &[IMAGE, MOST],
     },
     Subcommand {
         name: "info",
         about: "Prints a summary of an image: its format, volume, sizes, and how many names of each kind",
-        words: &[IMAGE, SIZE],
+        words: &[IMAGE, SIZE, MOST],
     },
     Subcommand {
         name: "map",
         about: "Prints the address in the flash of each file of an image",
-        words: &[IMAGE, BASE, ALL_EXTENTS, C_HEADER, PREFIX, SVG],
+        words: &[
+            IMAGE,
+            BASE,
+            ALL_EXTENTS,
+            C_HEADER,
+            SCRIPT,
+            PREFIX,
+            ONLY,
+            SVG,
+            MOST,
+        ],
     },
     Subcommand {
         name: "which",
         about: "Prints what is at the given addresses of the flash",
-        words: &[IMAGE, BASE, ADDRESSES],
+        words: &[IMAGE, BASE, MOST, ADDRESSES],
     },
     Subcommand {
         name: "diff",
         about: "Prints the differences of two images",
-        words: &[OLD, NEW, TREE],
+        words: &[OLD, NEW, TREE, MOST],
     },
     Subcommand {
         name: "digest",
         about: "Prints the SHA-256 of each file of an image",
-        words: &[DIGESTED, WHOLE],
+        words: &[DIGESTED, WHOLE, MOST],
     },
     Subcommand {
         name: "verify",
         about: "Compares a dump of the flash with an image",
-        words: &[IMAGE, DUMP, OFFSET],
+        words: &[IMAGE, DUMP, OFFSET, MOST],
+    },
+    Subcommand {
+        name: "numbers",
+        about: "Prints a description of an image, with which firmware opens it without a check",
+        words: &[IMAGE, ARRAY, MOST],
     },
     Subcommand {
         name: "cat",
         about: "Prints the bytes of a file in an image",
-        words: &[IMAGE, PATH],
+        words: &[IMAGE, PATH, MOST],
     },
     Subcommand {
         name: "linux",
         about: "Prints what Linux misreads in a valid image",
-        words: &[IMAGE],
+        words: &[IMAGE, MOST],
     },
     Subcommand {
         name: "xip",
         about: "Prints which programs of an image Linux executes in place",
-        words: &[IMAGE, BASE, NO_MMU, ADVICE],
+        words: &[IMAGE, BASE, NO_MMU, ADVICE, MOST],
     },
 ];
 
@@ -495,12 +594,12 @@ pub const BUILDING: [Subcommand<'static>; 4] = [
     Subcommand {
         name: "serve",
         about: "Answers requests on standard input about the files of an image",
-        words: &[IMAGE],
+        words: &[IMAGE, MOST],
     },
     Subcommand {
         name: "space",
         about: "Answers requests about one to eight images, with sessions and mounts",
-        words: &[IMAGES],
+        words: &[MOST, IMAGES],
     },
     Subcommand {
         name: "build",
@@ -513,6 +612,8 @@ pub const BUILDING: [Subcommand<'static>; 4] = [
             STRICT_BUILD,
             XIP_BUILD,
             MAX_SIZE,
+            PARTITION,
+            FILL,
             DIRECTORY,
             DEPFILE,
         ],
@@ -529,10 +630,14 @@ pub const BUILDING: [Subcommand<'static>; 4] = [
             EXCLUDE_PACKED,
             VOLUME_PACKED,
             DEVICES_PACKED,
+            TABLE_PACKED,
+            DEDUPE_PACKED,
             ONE_FILE_SYSTEM,
             STRICT_PACK,
             XIP_BUILD,
             MAX_SIZE,
+            PARTITION,
+            FILL,
             DEPFILE,
             KEPT,
             QUIET,
@@ -555,6 +660,8 @@ pub const OTHERS: [Subcommand<'static>; 3] = [
             EXCLUDE,
             VOLUME,
             DEVICES,
+            DEVICE_TABLE,
+            DEDUPE,
             OUTPUT,
             DEPFILE_SCANNED,
             ONE_FILE_SYSTEM,
@@ -564,7 +671,7 @@ pub const OTHERS: [Subcommand<'static>; 3] = [
     Subcommand {
         name: "extract",
         about: "Writes the files of an image into a directory, and prints its manifest",
-        words: &[IMAGE, INTO, ALIGN_AGAIN, OWNERS, NO_SYNC],
+        words: &[IMAGE, INTO, ALIGN_AGAIN, OWNERS, NO_SYNC, MOST],
     },
     Subcommand {
         name: "version",

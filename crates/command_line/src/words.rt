@@ -7,10 +7,10 @@ ghost use Rattle.command_line.specs.Commands.{romtool_app};
 ghost use Rattle.command_line.specs.Words.{IsAskedOf, is_bare};
 ghost use Rattle.command_line.specs.declared.request.Request.TheVariants.{Example};
 
-use crate::asking::asked;
+use crate::asking::{asked, most_of};
 use crate::commands::command;
 use crate::error::{WordsError, Wrong};
-use crate::request::Request;
+use crate::request::{Limited, Request};
 use clap::error::ErrorKind;
 use clap::{ArgMatches, Error};
 use percent_encoding::{AsciiSet, CONTROLS, ascii_set, percent_encode};
@@ -28,11 +28,14 @@ fn entered<'m, 'a>(matches: &'m ArgMatches<'a>) -> Option<(&'a str, &'m ArgMatch
 }
 
 /// Returns what the words with a subcommand ask for.
-fn chosen<'a>(alloc: Global, matches: &ArgMatches<'a>) -> Result<Request<'a>, WordsError<'a>>
+fn chosen<'a>(alloc: Global, matches: &ArgMatches<'a>) -> Result<Limited<'a>, WordsError<'a>>
     ensures { IfOk result (IsAskedOf (subcommand_rows_of matches.now)) }
 {
     match entered(matches) {
-        Some((name, values)) => asked(alloc, name, values),
+        Some((name, values)) => Ok(Limited {
+            request: asked(alloc, name, values)?,
+            most: most_of(values)?,
+        }),
         None => Err(Wrong::NoSubcommand.into()),
     }
 }
@@ -88,13 +91,19 @@ fn refused<'a>(alloc: Global, words: &[String], error: Error) -> WordsError<'a> 
 ///
 /// `OutOfMemory`; `Refused` with clap's text if clap refuses the words; `Taken` with the reason if
 /// clap accepts the words and they ask for nothing.
-pub fn read<'a>(alloc: Global, words: &'a [String]) -> Result<Request<'a>, WordsError<'a>>
-    ensures example { (result ≡ Ok Example) ↔ (is_bare (map string_bytes words.now) ≡ true) }
+pub fn read<'a>(alloc: Global, words: &'a [String]) -> Result<Limited<'a>, WordsError<'a>>
+    ensures example { IfOk result (λ l. (l.request ≡ Example)
+        ↔ (is_bare (map string_bytes words.now) ≡ true)) }
+    ensures bare { is_bare (map string_bytes words.now) ≡ true
+        → result ≡ Ok (record { request = Example; most = None }) }
     ensures asked { is_bare (map string_bytes words.now) ≡ false → IfOk result (IsAskedOf
         (subcommand_of romtool_app (map string_bytes words.now))) }
 {
     if is_bare(words) {
-        return Ok(Request::Example);
+        return Ok(Limited {
+            request: Request::Example,
+            most: None,
+        });
     }
     match command(alloc)?.try_get_matches_from(words) {
         Ok(matches) => chosen(alloc, &matches),

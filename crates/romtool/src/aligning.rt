@@ -1,7 +1,6 @@
 //! The alignments of the scanned files.
 use crate::patterns::Patterns;
 use crate::reporter::Reporter;
-use crate::stamp::Identity;
 use build_commands::inventory::{FileKind, NamedFile, align_of};
 use elf_format::{HEAD_LEN, needs_pages};
 use program_streams::read_until;
@@ -12,6 +11,7 @@ use std::alloc::Global;
 use std::collections::BTreeMap;
 use std::fs::{self, File, Metadata, OpenFile};
 use std::io;
+use system_files::Identity;
 
 /// The number of bytes at the front of a file that show its format.
 const FORMAT_LEN: u64 = 4;
@@ -21,7 +21,11 @@ type Largest = BTreeMap<(u64, u64), u32>;
 
 /// Opens a regular file that was found, if its name still leads to it: opening a FIFO would wait
 /// for a writer.
-fn open_found(rt: &HostRuntime, found: &NamedFile) -> io::Result<File> {
+///
+/// # Errors
+///
+/// The operating system's error; `NotFound` if another file has the name.
+pub fn open_found(rt: &HostRuntime, found: &NamedFile) -> io::Result<File> {
     let is_found = |now: &Metadata| {
         let inode = &found.inode;
         now.is_file() && Identity::of(now) == Identity::at(inode.device, inode.number)
@@ -108,6 +112,17 @@ fn align_each(
     Ok(())
 }
 
+/// Gives each name of a file with several links the largest alignment of its names.
+pub fn share_alignments(reporter: &Reporter<'_>, found: &mut [NamedFile]) -> Result<(), Status> {
+    match largest_of(reporter.rt.alloc(), found) {
+        Ok(largest) => {
+            share(&largest, found);
+            Ok(())
+        }
+        Err(_) => Err(reporter.say(Ending::Memory)),
+    }
+}
+
 /// Sets the alignment of each regular file: that of the last pattern that matches its path;
 /// otherwise this one if the file is a program or a library that is executed in place. A file with
 /// several names has the largest alignment of these names. Reports a file that cannot be read.
@@ -118,11 +133,5 @@ pub fn align_all(
     found: &mut [NamedFile],
 ) -> Result<(), Status> {
     align_each(reporter, patterns, align, found)?;
-    match largest_of(reporter.rt.alloc(), found) {
-        Ok(largest) => {
-            share(&largest, found);
-            Ok(())
-        }
-        Err(_) => Err(reporter.say(Ending::Memory)),
-    }
+    share_alignments(reporter, found)
 }

@@ -6,30 +6,25 @@ ghost use Rattle.formats.specs.Format.{format_of};
 ghost use Rattle.plan_types.specs.Plans.{IsPlanOf};
 ghost use Rattle.romtool.specs.Sources.{opened_as};
 
-use crate::beside::KeepError;
-use crate::depfile::Rule;
-use crate::disk::{Disk, first_changed};
 use crate::foreseen::{Warnings, foreseen};
-use crate::imaging::{Late, Unchanged};
 use crate::in_place::{Unknown, first_unplaced};
 use crate::origin::Origin;
-use crate::progress::Progress;
 use crate::reading::TextFile;
 use crate::reporter::Reporter;
 use crate::scan_all::ScannedText;
 use crate::sources::{joined_names, names_of, sizes_of, stamps_of, texts_of};
-use crate::stamp::{Identity, Stamp, has_changed, let_rest};
-use crate::target::{FillError, Target};
-use crate::{bad_lines, contents, depfile, explained, own_output, reading, warned};
+use crate::watched::Watched;
+use crate::{bad_lines, contents, depfile, explained, reading, warned};
 use build_commands::{
     print_bad_manifest, print_built, print_misfit, print_size, print_strict, print_xip,
 };
 use command_line::Build;
 use file_sources::FileSources;
 use image_build::StreamError;
-use image_file::{PlanImage, Unwritten};
+use image_file::{Padding, PlanImage, Unwritten};
 use image_stream::Sources;
 use layout_plan::{PlanError, plan};
+use make_rule::Rule;
 use manifest::{Manifest, ManifestError, parse};
 use plan_types::{Format, Plan};
 use program_streams::Held;
@@ -39,7 +34,12 @@ use sentences::reasons::{
     NOT_TAKEN, OWN_ERROR, OWN_INPUT, OWN_OUTPUT, PART_REPLACED, SOURCE_CHANGED, SOURCE_UNREAD,
     SUM_DIFFERS,
 };
+use std::alloc::{AllocError, Global};
 use std::{fs, io};
+use system_files::{
+    Disk, FillError, Identity, KeepError, Late, Progress, Stamp, Target, Unchanged, first_changed,
+    has_changed, let_rest, own_output,
+};
 
 /// The word for a manifest on standard input.
 const INPUT: &str = "-";
@@ -106,9 +106,57 @@ fn planned(
             let out = &mut Plain::new(Held::new(rt.alloc(), io::writer(rt)));
             let status = printed(reporter, print_misfit(out, line, number));
             explained::misfit(reporter, format, origin, sizes, (line, number));
+            explained::other_misfits(reporter, format, origin, sizes, line);
             Err(status)
         }
     }
+}
+
+/// The files that have to keep their states while an image is written: its sources, those that a
+/// scan read besides, and those among its sources that a scan read.
+#[derive(Clone, Copy)]
+struct Kept<'a> {
+    names: &'a [&'a str],
+    states: &'a [Stamp],
+    /// How many of the names a rule has: each once.
+    in_rule: usize,
+}
+
+/// The names of the files that have to keep their states: sources of these names, and files that
+/// were read.
+fn kept_names(
+    alloc: Global,
+    names: &[&str],
+    watched: &[Watched],
+) -> Result<Vec<String>, AllocError> {
+    let mut all = Vec::new(alloc);
+    for name in names {
+        all.push(String::from_str(alloc, name)?)?;
+    }
+    for file in watched.iter().filter(|file| !file.is_source) {
+        all.push(String::from_str(alloc, &file.name)?)?;
+    }
+    for file in watched.iter().filter(|file| file.is_source) {
+        all.push(String::from_str(alloc, &file.name)?)?;
+    }
+    Ok(all)
+}
+
+/// Their states, in the same order.
+fn kept_states(
+    alloc: Global,
+    stamps: &[Stamp],
+    watched: &[Watched],
+) -> Result<Vec<Stamp>, AllocError> {
+    let mut all = Vec::new(alloc);
+    all.extend_from_slice(stamps)?;
+    for file in watched.iter().filter(|file| !file.is_source) {
+        all.push(file.state)?;
+    }
+    for file in watched.iter().filter(|file| file.is_source) {
+        all.push(file.state)?;
+    }
+    Ok(all)
 }
 
 /// The sources of an image: their names, and the states that they and the manifest have to keep.
@@ -118,6 +166,7 @@ struct Files<'a> {
     manifest: TextFile,
     names: &'a [&'a str],
     stamps: &'a [Stamp],
+    kept: Kept<'a>,
 }
 
 impl<'a> Files<'a> {
@@ -141,7 +190,11 @@ impl Files<'_> {
     fn say_late(&self, reporter: &Reporter<'_>, late: Late) -> Status {
         match late {
             Late::Manifest => reporter.changed(self.origin.name.as_bytes(), &SOURCE_CHANGED),
-            Late::Source(file) => self.say_changed(reporter, file),
+            Late::Source(file) if file < self.names.len() => self.say_changed(reporter, file),
+            Late::Source(file) => {
+                let name = self.kept.names.get(file).copied().unwrap_or("");
+                reporter.changed(name.as_bytes(), &SOURCE_CHANGED)
+            }
         }
     }
 
@@ -177,15 +230,20 @@ impl Files<'_> {
         match e {
             StreamError::SizeDiffers { file } => self.say_fault(reporter, file, None),
             StreamError::SourceFault { file } => self.say_fault(reporter, file, of_source),
-            StreamError::WriteFault => match of_out {
-                Some(e) => reporter.failed_by(out.as_bytes(), &e),
-                None => reporter.failed(out.as_bytes(), &NOT_TAKEN),
-            },
+            StreamError::WriteFault => say_not_taken(reporter, of_out, out),
             StreamError::Changed => match first_changed(reporter.rt, self.names, self.stamps) {
                 Some(file) => self.say_changed(reporter, file),
                 None => reporter.changed(out.as_bytes(), &SUM_DIFFERS),
             },
         }
+    }
+}
+
+/// Reports that OUT did not accept everything, for the system's reason if it gave one.
+fn say_not_taken(reporter: &Reporter<'_>, reason: Option<io::Error>, out: &str) -> Status {
+    match reason {
+        Some(e) => reporter.failed_by(out.as_bytes(), &e),
+        None => reporter.failed(out.as_bytes(), &NOT_TAKEN),
     }
 }
 
@@ -301,7 +359,7 @@ fn rule<'a>(asked: Build<'a>, files: Files<'a>) -> Rule<'a> {
         } else {
             Some(asked.manifest)
         },
-        sources: files.names,
+        sources: files.kept.names.get(..files.kept.in_rule).unwrap_or(&[]),
         directories: files.origin.directories,
     }
 }
@@ -356,12 +414,40 @@ fn keep(reporter: &Reporter<'_>, target: Target, name: &str) -> Result<(), Statu
     }
 }
 
+/// Where an image goes: the target, its name, and the bytes that follow the image.
+#[derive(Drop)]
+struct Destination<'a> {
+    target: Target,
+    out: &'a str,
+    padding: Padding,
+}
+
+/// Returns the most bytes that an image may have, if there is a limit.
+pub fn most_bytes(asked: Build<'_>) -> Option<u64> {
+    let partition = asked.padding.map(|padding| padding.size);
+    match (asked.max_size, partition) {
+        (Some(most), Some(size)) => Some(most.min(size)),
+        (most, size) => most.or(size),
+    }
+}
+
+/// The bytes that follow an image of this length.
+fn padding_after(asked: Build<'_>, len: usize) -> Padding {
+    match asked.padding {
+        Some(padding) => Padding {
+            len: padding.size.saturating_sub(len as u64),
+            byte: padding.fill,
+        },
+        None => Padding { len: 0, byte: 0 },
+    }
+}
+
 /// Writes the image of a plan, made of these files, through a buffer, and gives it its name.
 fn put_image(
     reporter: &Reporter<'_>,
     plan: &Plan,
     files: Files<'_>,
-    place: (Target, &str),
+    destination: Destination<'_>,
     buffer: &mut [u8],
 ) -> Result<(), Status>
     requires sizes { length plan.now.sizes ≡ length files.names.now }
@@ -369,18 +455,22 @@ fn put_image(
     requires words { length buffer.old % 4 ≡ 0 }
 {
     let rt = reporter.rt;
-    let (target, out) = place;
+    let Destination {
+        target,
+        out,
+        padding,
+    } = destination;
     let sources = disk_of(rt, plan, files);
-    let (names, stamps) = (files.names, files.stamps);
     let last = Unchanged {
         rt,
         manifest: files.manifest_state(),
-        names,
-        stamps,
+        names: files.kept.names,
+        stamps: files.kept.states,
     };
     let mut image = PlanImage {
         plan,
         sources,
+        padding,
         last,
         buffer,
     };
@@ -388,6 +478,7 @@ fn put_image(
     let PlanImage {
         plan: _,
         sources,
+        padding: _,
         last: _,
         buffer: _,
     } = image;
@@ -397,6 +488,9 @@ fn put_image(
         Ok(()) => Ok(()),
         Err(FillError::NotKept(e)) => Err(say_unkept(reporter, e, out)),
         Err(FillError::NotWritten(Unwritten::Late(late), _)) => Err(files.say_late(reporter, late)),
+        Err(FillError::NotWritten(Unwritten::Padded, reason)) => {
+            Err(say_not_taken(reporter, reason, out))
+        }
         Err(FillError::NotWritten(Unwritten::Stream(e), reason)) => {
             Err(files.say_unwritten(reporter, e, (unread, reason), out))
         }
@@ -409,16 +503,15 @@ fn write_image(
     reporter: &Reporter<'_>,
     plan: &Plan,
     files: Files<'_>,
-    target: Target,
-    out: &str,
+    destination: Destination<'_>,
 ) -> Result<(), Status>
     requires { length plan.now.sizes ≡ length files.names.now }
 {
     match buffer_of(reporter.rt, LARGE) {
-        Some(mut buffer) => put_image(reporter, plan, files, (target, out), buffer.as_mut_slice()),
+        Some(mut buffer) => put_image(reporter, plan, files, destination, buffer.as_mut_slice()),
         None => {
             let mut buffer: [u8; 4096] = [0; 4096];
-            put_image(reporter, plan, files, (target, out), buffer.as_mut_slice())
+            put_image(reporter, plan, files, destination, buffer.as_mut_slice())
         }
     }
 }
@@ -433,7 +526,7 @@ fn abandon(reporter: &Reporter<'_>, target: Option<Target>) {
 /// Refuses a plan whose image is longer than it may be.
 fn check_size(reporter: &Reporter<'_>, asked: Build<'_>, plan: &Plan) -> Result<(), Status> {
     let len = plan.image_len() as u64;
-    match asked.max_size {
+    match most_bytes(asked) {
         Some(most) if len > most => {
             let out = &mut Plain::new(Held::new(reporter.rt.alloc(), io::writer(reporter.rt)));
             let status = printed(reporter, print_size(out, len, most));
@@ -510,7 +603,7 @@ fn write_files(
 {
     let inputs = Inputs {
         manifest: files.manifest.identity,
-        stamps: files.stamps,
+        stamps: files.kept.states,
     };
     if let Some(name) = asked.depfile {
         depfile::check(reporter, name, rule(asked, files))?;
@@ -523,8 +616,13 @@ fn write_files(
             return Err(status);
         }
     };
-    let_rest(reporter.rt, files.stamps);
-    if let Err(status) = write_image(reporter, plan, files, target, asked.out) {
+    let_rest(reporter.rt, files.kept.states);
+    let destination = Destination {
+        target,
+        out: asked.out,
+        padding: padding_after(asked, plan.image_len()),
+    };
+    if let Err(status) = write_image(reporter, plan, files, destination) {
         abandon(reporter, rule);
         return Err(status);
     }
@@ -542,12 +640,34 @@ struct Built {
     sizes: Vec<u64>,
 }
 
+/// What was kept, if there was memory for it. Reports that there was none.
+fn kept_of<T: Drop>(
+    reporter: &Reporter<'_>,
+    kept: Result<Vec<T>, AllocError>,
+) -> Result<Vec<T>, Status> {
+    match kept {
+        Ok(kept) => Ok(kept),
+        Err(_) => Err(reporter.say(Ending::Memory)),
+    }
+}
+
+/// Names as texts.
+fn as_texts<'n>(reporter: &Reporter<'_>, names: &'n [String]) -> Result<Vec<&'n str>, Status> {
+    let mut texts = Vec::new(reporter.rt.alloc());
+    for name in names {
+        if texts.push(name.as_str()).is_err() {
+            return Err(reporter.say(Ending::Memory));
+        }
+    }
+    Ok(texts)
+}
+
 /// Builds the image of a manifest, whose text is in this file, and whose sources have these names.
-fn build_from(
+fn build_from<'a>(
     reporter: &Reporter<'_>,
     asked: Build<'_>,
-    origin: Origin<'_>,
-    names: &[&str],
+    origin: Origin<'a>,
+    names: &'a [&'a str],
     manifest: TextFile,
 ) -> Result<Built, Status>
     requires { map (λ n. n.now) names.now ≡ opened_as (option_map (λ d. d.now) asked.sources)
@@ -558,11 +678,27 @@ fn build_from(
     let plan = planned(reporter, asked.format, origin, &sizes)?;
     check_size(reporter, asked, &plan)?;
     let warnings = warnings_of(reporter, asked, origin, &sizes)?;
+    let owned = kept_of(
+        reporter,
+        kept_names(reporter.rt.alloc(), names, origin.watched),
+    )?;
+    let states = kept_of(
+        reporter,
+        kept_states(reporter.rt.alloc(), &stamps, origin.watched),
+    )?;
+    let kept = as_texts(reporter, &owned)?;
+    let others = origin.watched.iter().filter(|file| !file.is_source);
+    let kept = Kept {
+        names: &kept,
+        states: &states,
+        in_rule: names.len().saturating_add(others.count()),
+    };
     let files = Files {
         origin,
         manifest,
         names,
         stamps: &stamps,
+        kept,
     };
     check_programs(reporter, asked, &plan, files)?;
     write_files(reporter, asked, &plan, files)?;
@@ -582,22 +718,24 @@ fn say_built(reporter: &Reporter<'_>, len: u64) -> Status {
 }
 
 /// Builds the image of a manifest, whose sources are named as it names them, and were found in
-/// these directories if they were scanned.
+/// these directories if they were scanned, together with other files that were read.
 fn build_plain<'a>(
     reporter: &Reporter<'_>,
     asked: Build<'a>,
     manifest: &'a Manifest,
-    directories: &'a [String],
+    scanned: (&'a [String], &'a [Watched]),
     file: TextFile,
 ) -> Result<Built, Status>
     requires { asked.sources ≡ None }
 {
+    let (directories, watched) = scanned;
     let origin = Origin {
         name: asked.manifest,
         manifest,
         joined: None,
         no_follow: asked.no_follow,
         directories,
+        watched,
     };
     let names = names_of(reporter, origin, manifest.sources())?;
     build_from(reporter, asked, origin, &names, file)
@@ -621,6 +759,7 @@ fn build_joined<'a>(
         joined: given,
         no_follow: asked.no_follow,
         directories: &[],
+        watched: &[],
     };
     let names = texts_of(reporter, origin, joined)?;
     build_from(reporter, asked, origin, &names, file)
@@ -645,7 +784,7 @@ fn build(reporter: &Reporter<'_>, asked: Build<'_>) -> Result<Status, Status> {
     let text = text_of(reporter, asked.manifest)?;
     let manifest = manifest_of(reporter, asked.manifest, &text.bytes)?;
     let built = match asked.sources {
-        None => build_plain(reporter, asked, &manifest, &[], text.file)?,
+        None => build_plain(reporter, asked, &manifest, (&[], &[]), text.file)?,
         Some(directory) => build_in(reporter, asked, directory, &manifest, text.file)?,
     };
     Ok(built.status)
@@ -668,7 +807,8 @@ pub fn build_scanned(
         identity: file,
         stamp: None,
     };
-    let built = build_plain(reporter, asked, &manifest, &scanned.directories, text)?;
+    let found = (scanned.directories.as_slice(), scanned.watched.as_slice());
+    let built = build_plain(reporter, asked, &manifest, found, text)?;
     contents::explain(reporter, asked, &manifest, (built.len, &built.sizes));
     Ok(built.status)
 }

@@ -1,4 +1,5 @@
 //! The table of what an image has in it, for people.
+use crate::building::most_bytes;
 use crate::reporter::Reporter;
 use command_line::Build;
 use manifest::{Line, Manifest, Word};
@@ -108,7 +109,7 @@ fn table(
         len.saturating_sub(contents),
         "names, tables and padding",
     )?;
-    if let Some(most) = asked.max_size {
+    if let Some(most) = most_bytes(asked) {
         add_row(&mut text, alloc, most.saturating_sub(len), "free")?;
     }
     if asked.xip {

@@ -1,6 +1,10 @@
-//! A file of devices, directories and links that are added to the scanned files.
+//! A file of devices, directories and links that are added to the scanned files, and of attributes
+//! that are set.
 use crate::overlay::{file_at, is_directory, sort};
+use crate::reading::Text;
 use crate::reporter::Reporter;
+use crate::rights::Change;
+use crate::watched::Watched;
 use crate::{explained, reading};
 use build_commands::inventory::{Device, FileKind, Inode, NamedFile};
 use build_commands::print_bad_manifest;
@@ -13,6 +17,7 @@ use rom_fields::Plain;
 use sentences::reasons::{DEVICE_EXISTS, DEVICE_NO_PARENT, DEVICE_NO_TEXT, DEVICE_WORD};
 use std::alloc::{AllocError, AllocFailed, Global};
 use std::str;
+use system_files::Stamp;
 
 /// The device number of files that were not scanned. No file system has it.
 const NOWHERE: u64 = u64::MAX;
@@ -26,9 +31,12 @@ const MOST_OF_PATH: usize = 4095;
 /// The words of the lines that such a file may have.
 const WORDS: [&[u8]; 5] = [b"dir", b"slink", b"nod", b"pipe", b"sock"];
 
+/// The word of a line that sets the attributes of a file.
+const MODE: &[u8] = b"mode";
+
 /// Why a line of such a file is refused.
 #[derive(Drop)]
-enum LineError {
+pub enum LineError {
     OutOfMemory,
     /// The fault of this number in the grammar of manifests.
     Bad(u32),
@@ -125,8 +133,51 @@ fn kind_of(alloc: Global, line: &Line) -> Result<FileKind, LineError> {
     })
 }
 
-/// The file that a line makes, in the form of a scanned file. Its inode has the number of the line.
-fn file_of(alloc: Global, number: u64, line: &[u8]) -> Result<NamedFile, LineError> {
+/// What lines add to the scanned files, and which attributes they set.
+#[derive(Drop)]
+pub struct Listing {
+    pub files: Vec<NamedFile>,
+    pub changes: Vec<Change>,
+}
+
+impl Listing {
+    /// Returns an empty list.
+    pub fn new(alloc: Global) -> Listing {
+        Listing {
+            files: Vec::new(alloc),
+            changes: Vec::new(alloc),
+        }
+    }
+
+    /// Adds what a line says.
+    fn add(&mut self, alloc: Global, number: u64, line: &[u8]) -> Result<(), LineError> {
+        if field(line, 0) == MODE {
+            self.changes.push(change_of(alloc, number, line)?)?;
+        } else {
+            self.files.push(file_of(alloc, number, line)?)?;
+        }
+        Ok(())
+    }
+}
+
+/// The attributes that a line sets. Its fields are those of a directory's line.
+fn change_of(alloc: Global, number: u64, line: &[u8]) -> Result<Change, LineError> {
+    let mut text = Vec::new(alloc);
+    text.extend_from_slice(b"dir")?;
+    text.extend_from_slice(line.get(MODE.len()..).unwrap_or(&[]))?;
+    let file = file_of(alloc, number, &text)?;
+    Ok(Change {
+        line: number,
+        path: file.place,
+        mode: Some(file.mode),
+        uid: file.uid,
+        gid: file.gid,
+    })
+}
+
+/// Returns the file that a line makes, in the form of a scanned file. Its inode has the number of
+/// the line.
+pub fn file_of(alloc: Global, number: u64, line: &[u8]) -> Result<NamedFile, LineError> {
     let word = field(line, 0);
     if !WORDS.iter().any(|known| *known == word) {
         return Err(LineError::Other(BAD_WORD, DEVICE_WORD));
@@ -184,8 +235,14 @@ fn wrong_in(
     }
 }
 
-/// Reports on standard error which line of the file is refused, and why.
-fn refuse(reporter: &Reporter<'_>, name: &str, text: &[u8], line: u64, why: LineError) -> Status {
+/// Reports on standard error which line of the file is refused, and why. Returns the status.
+pub fn refuse(
+    reporter: &Reporter<'_>,
+    name: &str,
+    text: &[u8],
+    line: u64,
+    why: LineError,
+) -> Status {
     let (number, reason) = match why {
         LineError::OutOfMemory => return reporter.say(Ending::Memory),
         LineError::Bad(number) => (number, None),
@@ -204,28 +261,25 @@ fn refuse(reporter: &Reporter<'_>, name: &str, text: &[u8], line: u64, why: Line
     Status::Refused
 }
 
-/// The lines of a text as files; or the line that is refused, and why.
-fn files_of(alloc: Global, text: &[u8]) -> Result<Vec<NamedFile>, (u64, LineError)> {
-    let mut files = Vec::new(alloc);
+/// What the lines of a text say; or the line that is refused, and why.
+fn listed_in(alloc: Global, text: &[u8]) -> Result<Listing, (u64, LineError)> {
+    let mut listed = Listing::new(alloc);
     let mut number = 0u64;
     for line in text.split(|b| *b == b'\n') {
         number = number.saturating_add(1);
-        if !line.is_empty() && !line.starts_with(b"#") {
-            let file = match file_of(alloc, number, line) {
-                Ok(file) => file,
-                Err(e) => return Err((number, e)),
-            };
-            if files.push(file).is_err() {
-                return Err((number, LineError::OutOfMemory));
-            }
+        if !line.is_empty()
+            && !line.starts_with(b"#")
+            && let Err(e) = listed.add(alloc, number, line)
+        {
+            return Err((number, e));
         }
     }
-    Ok(files)
+    Ok(listed)
 }
 
-/// The first line that does not fit the others or the scanned files. All are in the order of
-/// `sort`.
-fn first_wrong(listed: &[NamedFile], found: &[NamedFile]) -> Option<(u64, u32, &'static str)> {
+/// Returns the first line that does not fit the others or the scanned files, with the number of
+/// the fault and the reason. All are in the order of `sort`.
+pub fn first_wrong(listed: &[NamedFile], found: &[NamedFile]) -> Option<(u64, u32, &'static str)> {
     let mut first: Option<(u64, u32, &'static str)> = None;
     for number in 0..listed.len() {
         if let Some((fault, why)) = wrong_in(listed, found, number)
@@ -238,29 +292,59 @@ fn first_wrong(listed: &[NamedFile], found: &[NamedFile]) -> Option<(u64, u32, &
     first
 }
 
-/// Returns the files that the lines of the file of this name make, in the order of `sort`. The
-/// scanned files are in that order, too. If there are none, reports why.
+/// A regular file of this name that was read in this state.
+fn watched_of(alloc: Global, name: &str, state: Stamp) -> Result<Watched, AllocError> {
+    Ok(Watched {
+        name: String::from_str(alloc, name)?,
+        state,
+        is_source: false,
+    })
+}
+
+/// Returns the bytes of the file of this name, and notes a regular file. Reports why it cannot be
+/// read.
+pub fn text_of_file(
+    reporter: &Reporter<'_>,
+    name: &str,
+    watched: &mut Vec<Watched>,
+) -> Result<Vec<u8>, Status> {
+    let text = match reading::manifest(reporter.rt, name) {
+        Ok(text) => text,
+        Err(e) => return Err(reporter.unread(name.as_bytes(), &e)),
+    };
+    let Text { bytes, file } = text;
+    if let Some(state) = file.stamp {
+        let noted = match watched_of(reporter.rt.alloc(), name, state) {
+            Ok(file) => watched.push(file).is_ok(),
+            Err(_) => false,
+        };
+        if !noted {
+            return Err(reporter.say(Ending::Memory));
+        }
+    }
+    Ok(bytes)
+}
+
+/// Returns what the lines of a text say, which is in the file of this name, its files in the order
+/// of `sort`. The scanned files are in that order, too. If a line is refused, reports why.
 pub fn listed(
     reporter: &Reporter<'_>,
     name: &str,
+    text: &[u8],
     found: &[NamedFile],
-) -> Result<Vec<NamedFile>, Status> {
-    let text = match reading::manifest(reporter.rt, name) {
-        Ok(text) => text.bytes,
-        Err(e) => return Err(reporter.unread(name.as_bytes(), &e)),
-    };
-    let mut listed = match files_of(reporter.rt.alloc(), &text) {
+) -> Result<Listing, Status> {
+    let mut listed = match listed_in(reporter.rt.alloc(), text) {
         Ok(listed) => listed,
-        Err((line, e)) => return Err(refuse(reporter, name, &text, line, e)),
+        Err((line, e)) => return Err(refuse(reporter, name, text, line, e)),
     };
-    if sort(&mut listed).is_err() {
+    if sort(&mut listed.files).is_err() {
         return Err(reporter.say(Ending::Memory));
     }
-    match first_wrong(&listed, found) {
+    match first_wrong(&listed.files, found) {
         None => Ok(listed),
         Some((line, number, why)) => {
             let why = LineError::Other(number, why);
-            Err(refuse(reporter, name, &text, line, why))
+            Err(refuse(reporter, name, text, line, why))
         }
     }
 }

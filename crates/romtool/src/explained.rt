@@ -1,13 +1,18 @@
 //! What a build explains in words for people: why a manifest is refused, and warnings.
-use crate::beside::Others;
+ghost use Rattle.std.specs.Prelude.{◌≡◌, length};
+ghost use Rattle.manifest.specs.Lines.{sources_of};
+
 use crate::origin::Origin;
-use crate::parts::part_path;
 use crate::reporter::Reporter;
-use crate::target::Target;
+use layout_plan::misfits;
 use plan_types::Format;
 use sentences::{manifest_line, manifest_sentence, misfit_sentence, plan_line};
 use std::alloc::AllocError;
 use std::fmt::Display;
+use system_files::{Others, Target, part_path};
+
+/// The most lines that do not fit of which each is explained, beside the first.
+const MOST_SAID: usize = 19;
 
 /// Explains a line of a manifest. Line 0 is the whole.
 fn of_line<W: Display>(
@@ -82,6 +87,50 @@ fn try_misfit(
     of_line(reporter, origin.name, line, &what)
 }
 
+/// Explains which lines do not fit a format after the first one: some of them one by one, and then
+/// how many more.
+pub fn other_misfits(
+    reporter: &Reporter<'_>,
+    format: Format,
+    origin: Origin<'_>,
+    sizes: &[u64],
+    first: u64,
+)
+    requires { length sizes.now ≡ length (sources_of origin.manifest.now.lines) }
+{
+    if reporter.is_explained() {
+        let _ = try_other_misfits(reporter, format, origin, sizes, first);
+    }
+}
+
+fn try_other_misfits(
+    reporter: &Reporter<'_>,
+    format: Format,
+    origin: Origin<'_>,
+    sizes: &[u64],
+    first: u64,
+) -> Result<(), AllocError>
+    requires { length sizes.now ≡ length (sources_of origin.manifest.now.lines) }
+{
+    let alloc = reporter.rt.alloc();
+    let Ok(all) = misfits(alloc, origin.manifest, sizes, format) else {
+        return Err(AllocError);
+    };
+    let mut more = 0u64;
+    for (said, other) in all.iter().filter(|other| other.line > first).enumerate() {
+        if said < MOST_SAID {
+            try_misfit(reporter, format, origin, sizes, (other.line, other.number))?;
+        } else {
+            more = more.saturating_add(1);
+        }
+    }
+    if more > 0 {
+        let what = format!(in alloc; "{more} more do not fit")?;
+        reporter.explain(origin.name.as_bytes(), &what);
+    }
+    Ok(())
+}
+
 /// Warns of lines that end in a carriage return, which is part of their last field.
 pub fn returns(reporter: &Reporter<'_>, manifest: &str, text: &[u8]) {
     if reporter.is_explained() {
@@ -111,7 +160,7 @@ fn try_parts(reporter: &Reporter<'_>, target: &Target) -> Result<(), AllocError>
         return Ok(());
     };
     let alloc = reporter.rt.alloc();
-    let place = part_path(reporter.rt, whole, 0)?;
+    let place = part_path(alloc, whole, 0)?;
     if removed > 0 {
         let what = format!(in alloc; "removed parts of interrupted builds: {removed}")?;
         reporter.explain(place.as_bytes(), &what);

@@ -4,10 +4,7 @@ ghost use Rattle.rom_tree.specs.Tree.{IsShallow};
 ghost use Rattle.image_check.specs.Any.{any_view};
 ghost use Rattle.image_manifest.specs.Describable.{IsLawfulTree};
 
-use crate::directories::base;
-use crate::extraction::System;
-use crate::making::{Syncing, Top};
-use crate::members::Extraction;
+use crate::extraction::Extraction;
 use crate::reporter::Reporter;
 use crate::totals::is_many_times;
 use command_line::Extract;
@@ -21,6 +18,8 @@ use rom_fields::{ByteWrite, Plain};
 use rom_tree::{Kind, Stat, TreeImage};
 use sentences::reasons::{INCOMPLETE, LONG_PATH, LONG_VOLUME};
 use std::io::{self, BufWriter};
+use system_files::base;
+use system_tree::{Syncing, System, Top};
 use tree_extract::{Kind as Made, Stopped, Tree, extract};
 
 /// The most bytes of a volume's name in a manifest.
@@ -89,7 +88,7 @@ impl Extraction<'_> {
         requires { IsLawfulTree (any_view self.now.tree.now.image.now).tree }
     {
         image_extract::laws::can_be_extracted();
-        let mut system = System::new(*self);
+        let mut system = System::new(self.members());
         if let Err(Stopped { index, error }) = extract(self.tree, &mut system) {
             return Err(self.refused(index, &error));
         }

@@ -1,160 +1,53 @@
-//! The directory that an image is extracted into, as the system has it.
-//!
-//! It is proved of the account that is kept here that each call was safe and makes a member of the
-//! image, and that all members were made if no call was refused (`tree_extract::extract`). The
-//! proof trusts this file by reading: each method of `Directory` makes the call of the system that
-//! its name says, at the path that `place` returns and with the rights that are noted, and notes
-//! what the system returned. Such a path begins at the current directory, which is the one that is
-//! filled (`Top::enter`).
-ghost use Rattle.std.specs.Prelude.{◌≡◌, ◌<◌, ◌++◌, [], List, codes, length, string_bytes};
-ghost use Rattle.std.specs.Prelude.{IfOk, OnOk};
+//! An image that is extracted, with what reports how that goes.
+ghost use Rattle.std.specs.Prelude.{◌≡◌, ◌<◌, length};
 ghost use Rattle.image_check.specs.Any.{any_view};
 ghost use Rattle.image_extract.specs.Members.{members_in};
-ghost use Rattle.tree_extract.specs.Accounts.{log_of, room_of};
-ghost use Rattle.tree_extract.specs.Members.{Member, path_at};
 
-use crate::making::{finish_file, new_directory, new_file, new_link, new_name, set_directory};
-use crate::members::{Extraction, accepted_text};
-use program_streams::{Again, Remembering};
-use rom_fields::Plain;
-use sentences::reasons::FILE_NOT_TAKEN;
-use std::fs::File;
+use crate::reporter::Reporter;
+use image_check::AnyImage;
+use image_extract::ImageTree;
+use rom_commands::{Ending, Status};
 use std::io;
-use tree_extract::{Account, Asked, Directory};
+use system_tree::{Members, Syncing};
 
-/// A writer of a file, which remembers why the system refused a write.
-type Writer = Plain<Remembering<Again<File>>>;
-
-/// The directory while an image is extracted into it.
-#[derive(Drop)]
-pub struct System<'a> {
-    extraction: Extraction<'a>,
-    account: Account,
-    /// The number of further names that were made as links to one file.
-    pub further: u64,
-    /// The number of further names that were made as files of their own.
-    pub copies: u64,
+/// An image, and the directory that it is extracted into, without slashes at its end.
+#[derive(Clone, Copy)]
+pub struct Extraction<'a> {
+    pub reporter: &'a Reporter<'a>,
+    pub tree: &'a ImageTree<'a, 'a, AnyImage<'a>>,
+    pub directory: &'a str,
+    /// Whether what is made is synced to the disk.
+    pub syncing: Syncing,
 }
 
-impl<'a> System<'a> {
-    /// Returns the empty directory of an extraction.
-    pub fn new(extraction: Extraction<'a>) -> System<'a>
-        ensures extraction { result.extraction ≡ extraction.entry }
-        ensures log { (ms : List Member) → log_of ms result.account ≡ [] }
+impl<'a> Extraction<'a> {
+    /// Returns what is made of the image.
+    pub fn members(&self) -> Members<'a>
+        ensures { result.tree ≡ self.now.tree }
     {
-        System {
-            extraction,
-            account: Account::new(extraction.reporter.rt.alloc()),
-            further: 0,
-            copies: 0,
+        Members {
+            rt: self.reporter.rt,
+            tree: self.tree,
+            syncing: self.syncing,
         }
     }
 
-    /// Asks for memory to note one more call, and returns the path of the member at an index.
-    fn place(&mut self, index: usize) -> io::Result<String>
-        requires { index < length (members_in self.old.extraction.tree.now.giving
-            (any_view self.old.extraction.tree.now.image.now)) }
-        ensures extraction { self.new.extraction ≡ self.old.extraction }
-        ensures same { self.new.account.answered.items ≡ self.old.account.answered.items }
-        ensures room { OnOk result (0 < room_of self.new.account) }
-        ensures place { IfOk result (λ p. string_bytes p ≡ codes "."
-            ++ path_at (members_in self.old.extraction.tree.now.giving
-            (any_view self.old.extraction.tree.now.image.now)) index) }
+    /// Checks that the system accepts the path of the member at an index, and a link's text.
+    pub fn try_name(&self, index: usize) -> io::Result<()>
+        requires { index < length (members_in self.now.tree.now.giving
+            (any_view self.now.tree.now.image.now)) }
     {
-        self.account.reserve()?;
-        self.extraction.place(index)
-    }
-}
-
-impl Directory for System<'_> {
-    ghost use Rattle.std.specs.Prelude.{None};
-    ghost use Rattle.program_streams.specs.Streams.{first_error};
-
-    type Error = io::Error;
-
-    type File = Writer;
-
-    ghost members = { λ s. members_in s.extraction.tree.now.giving
-        (any_view s.extraction.tree.now.image.now) };
-
-    ghost log = { λ s.
-        log_of (members_in s.extraction.tree.now.giving
-        (any_view s.extraction.tree.now.image.now)) s.account };
-
-    ghost fresh = { None };
-
-    ghost reason = { λ file. first_error file.inner };
-
-    fn make_directory(&mut self, index: usize) -> io::Result<()> {
-        let place = self.place(index)?;
-        let made = new_directory(self.extraction.reporter.rt, &place);
-        self.account.answer(Asked::MakeDirectory, index, made)
+        self.members().try_name(index, self.directory.len())
     }
 
-    fn make_file(&mut self, index: usize) -> io::Result<Writer> {
-        let place = self.place(index)?;
-        let made = new_file(self.extraction.reporter.rt, &place);
-        self.account.note(Asked::MakeFile, index, made.is_ok());
-        Ok(Plain::new(Remembering::new(Again::new(made?))))
-    }
-
-    fn finish_file(&mut self, index: usize, file: Writer) -> io::Result<()> {
-        self.account.reserve()?;
-        let (file, error) = file.into_inner().into_parts();
-        if let Some(e) = error {
-            return Err(e);
+    /// Reports why the member at an index cannot be made, or could not be made.
+    pub fn refused(&self, index: usize, e: &io::Error) -> Status
+        requires { index < length (members_in self.now.tree.now.giving
+            (any_view self.now.tree.now.image.now)) }
+    {
+        match self.members().named_in(self.directory, index) {
+            Ok(name) => self.reporter.refused(&name, e),
+            Err(_) => self.reporter.say(Ending::Memory),
         }
-        let rights = self.extraction.tree.rights(index);
-        let finished = finish_file(
-            self.extraction.reporter.rt,
-            file.into_inner(),
-            rights,
-            self.extraction.syncing,
-        );
-        self.account
-            .answer(Asked::FinishFile(rights), index, finished)
-    }
-
-    fn unwritten(&self, file: Writer) -> io::Error {
-        match file.into_inner().error() {
-            Some(e) => e,
-            None => io::Error::new(io::ErrorKind::WriteZero, FILE_NOT_TAKEN),
-        }
-    }
-
-    fn make_name(&mut self, index: usize, first: usize) -> io::Result<bool> {
-        let place = self.place(index)?;
-        let file = self.extraction.place(first)?;
-        let made = new_name(self.extraction.reporter.rt, &file, &place);
-        self.account
-            .note(Asked::MakeName, index, matches!(made, Ok(true)));
-        match made {
-            Ok(true) => self.further = self.further.saturating_add(1),
-            Ok(false) => self.copies = self.copies.saturating_add(1),
-            Err(_) => {}
-        }
-        made
-    }
-
-    fn make_symlink(&mut self, index: usize, text: &[u8]) -> io::Result<()> {
-        let place = self.place(index)?;
-        let (text, owner) = (
-            accepted_text(text)?,
-            self.extraction.tree.rights(index).owner,
-        );
-        let made = new_link(self.extraction.reporter.rt, text, &place, owner);
-        self.account.answer(Asked::MakeSymlink(owner), index, made)
-    }
-
-    fn set_rights(&mut self, index: usize) -> io::Result<()> {
-        let place = self.place(index)?;
-        let rights = self.extraction.tree.rights(index);
-        let set = set_directory(
-            self.extraction.reporter.rt,
-            &place,
-            rights,
-            self.extraction.syncing,
-        );
-        self.account.answer(Asked::SetRights(rights), index, set)
     }
 }

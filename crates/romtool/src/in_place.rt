@@ -1,6 +1,5 @@
 //! The programs of a planned image that Linux would not execute in place.
 use crate::origin::Origin;
-use crate::stamp::{Stamp, open_unchanged};
 use manifest::Word;
 use plan_types::{Body, Plan, Section};
 use program_report::{Reason, Verdict, verdict_at};
@@ -8,6 +7,7 @@ use program_streams::read_until;
 use sentences::reasons::SOURCE_CHANGED;
 use std::alloc::{AllocError, Global};
 use std::io;
+use system_files::{Stamp, open_unchanged};
 
 /// The first bytes of an ELF file.
 const MAGIC: &[u8] = b"\x7fELF";

@@ -1,10 +1,9 @@
 //! Scans directories as they are, with all that is below them.
-use crate::directories::{all_stayed, base};
+use crate::directories::all_stayed;
 use crate::lister::{self, Survey};
 use crate::patterns::Patterns;
 use crate::reporter::Reporter;
-use crate::stamp::{Stamp, let_rest};
-use build_commands::inventory::{Device, FileKind, Inode, NamedFile};
+use build_commands::inventory::{FileKind, Inode, NamedFile};
 use command_line::ScanAll;
 use directory_walk::{Directory, Entry};
 use rom_commands::{Ending, Status};
@@ -13,22 +12,13 @@ use std::alloc::{AllocError, Global};
 use std::fs::{self, Metadata};
 use std::io;
 use std::os::unix::fs::{FileTypeExt, MetadataExt};
+use system_files::{Stamp, base, device_of, let_rest};
 
 /// The bits of a mode without the kind of a file.
 const MODE_BITS: u32 = 0o7777;
 
 /// The alignment of a file for which no other one is chosen.
 const USUAL_ALIGN: u32 = 4;
-
-/// Returns the two numbers of a device, which Linux packs into one.
-pub fn device_of(numbers: u64) -> Device {
-    let major = ((numbers >> 32) & 0xffff_f000) | ((numbers >> 8) & 0xfff);
-    let minor = ((numbers >> 12) & 0xffff_ff00) | (numbers & 0xff);
-    Device {
-        major: u32::try_from(major).unwrap_or(u32::MAX),
-        minor: u32::try_from(minor).unwrap_or(u32::MAX),
-    }
-}
 
 /// The kind of the file with this name and these attributes.
 fn kind_of(rt: &HostRuntime, place: &str, metadata: &Metadata) -> io::Result<FileKind> {

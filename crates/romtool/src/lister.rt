@@ -1,9 +1,7 @@
 //! The directories of the system, as a scan lists them.
 ghost use Rattle.std.specs.Prelude.{None, ⊤};
 
-use crate::directories::{base, directory_at, is_foreign, opened_name};
 use crate::reporter::Reporter;
-use crate::stamp::{Stamp, let_rest};
 use directory_walk::{Directory, Listed, Lister, WalkError, Walked, walk};
 use rom_commands::{Ending, Status};
 use sentences::reasons::{FOREIGN_LINK, FOREIGN_NAME};
@@ -11,6 +9,7 @@ use std::alloc::{AllocError, Global};
 use std::fs::{self, DirEntry, Metadata};
 use std::io;
 use std::os::unix::fs::MetadataExt;
+use system_files::{Stamp, base, directory_at, is_foreign, let_rest, opened_name};
 
 /// What a scan asks of each file.
 pub trait Survey {

@@ -13,61 +13,51 @@
 //! `image_manifest` and `image_build`; what is read into memory and how streams are used, in
 //! `program_streams` and `image_load`. How a file is replaced is proved in `image_file`, and how an
 //! image is extracted in `tree_extract`. Both proofs are about accounts: lists of the calls that
-//! are made to the system. The other work with files and directories is only tested.
+//! `system_files` and `system_tree` make to the system. The other work with files and directories
+//! is only tested.
 #![tactic(auto)]
 
 mod aligning;
 mod arguments;
 mod bad_lines;
-mod beside;
 mod building;
-mod closing;
 mod contents;
 mod depfile;
+mod device_table;
 mod devices;
-mod differing;
-mod digesting;
 mod directories;
-mod disk;
+mod dump;
+mod equal;
 mod explained;
 mod extracting;
 mod extraction;
 mod faked;
-mod flash;
 mod foreseen;
-mod imaging;
 mod in_place;
+mod inspect;
 mod inventory;
 mod lister;
-mod making;
-mod members;
-mod mounted;
 mod origin;
+mod output;
 mod overlay;
-mod own_output;
-mod owner;
 mod packing;
-mod parts;
 mod patterns;
-mod place;
 mod printed;
 mod program;
-mod progress;
 mod reading;
 mod replies;
 mod reporter;
+mod rights;
 mod scan_all;
 mod scanning;
-mod sound;
+mod serving;
 mod sources;
-mod stamp;
 mod streams;
-mod target;
 mod totals;
 mod unfit;
-mod verifying;
 mod version;
 mod warned;
+mod watched;
 
 use std::process::ExitCode;
 

@@ -1,4 +1,5 @@
 //! Where the sources of an image are named.
+use crate::watched::Watched;
 use manifest::Manifest;
 use sentences::plan_line::line_of_source;
 
@@ -13,6 +14,8 @@ pub struct Origin<'a> {
     pub no_follow: bool,
     /// The directories in which the sources were found, if the manifest is of a scan.
     pub directories: &'a [String],
+    /// The files besides that decided what the manifest says.
+    pub watched: &'a [Watched],
 }
 
 impl<'a> Origin<'a> {

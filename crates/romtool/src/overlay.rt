@@ -58,10 +58,13 @@ pub fn laid_over(alloc: Global, found: Vec<NamedFile>) -> Result<Vec<NamedFile>,
     Ok(laid)
 }
 
+/// Returns the number of the file of this path, if there is one. The files are in the order of
+/// `sort`.
+pub fn number_at(found: &[NamedFile], path: &[u8]) -> Option<usize> {
+    found.binary_search_by(|file| file.path().cmp(path)).ok()
+}
+
 /// Returns the file of this path, if there is one. The files are in the order of `sort`.
 pub fn file_at<'a>(found: &'a [NamedFile], path: &[u8]) -> Option<&'a NamedFile> {
-    match found.binary_search_by(|file| file.path().cmp(path)) {
-        Ok(number) => found.get(number),
-        Err(_) => None,
-    }
+    found.get(number_at(found, path)?)
 }

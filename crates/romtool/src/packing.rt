@@ -1,10 +1,10 @@
 //! Scans directories, and builds the image of what was found.
 use crate::reporter::Reporter;
-use crate::stamp::Identity;
 use crate::{building, scan_all};
 use command_line::Pack;
 use rom_commands::Status;
 use std::fs;
+use system_files::Identity;
 
 /// Packs directories, and returns the status.
 fn pack(reporter: &Reporter<'_>, asked: &Pack<'_>) -> Result<Status, Status> {

@@ -1,7 +1,8 @@
-//! The patterns of a scan: for excluded paths and for alignments.
+//! The patterns of a scan, for excluded paths and for alignments, and those of a map.
 use crate::reporter::Reporter;
 use command_line::ScanAll;
-use path_patterns::{PatternError, Piece, matches, pieces_of};
+use inspect_commands::Only;
+use path_patterns::{PatternError, Piece, characters, matches, pieces_of};
 use rom_commands::{Ending, Status};
 use sentences::reasons::{PATTERN_CLASS, PATTERN_UNFINISHED};
 use std::alloc::{AllocError, Global};
@@ -18,15 +19,6 @@ struct AlignPattern {
 pub struct Patterns {
     excludes: Vec<Vec<Piece>>,
     aligns: Vec<AlignPattern>,
-}
-
-/// The characters of a text.
-fn characters(alloc: Global, text: &str) -> Result<Vec<char>, AllocError> {
-    let mut characters = Vec::new(alloc);
-    for c in text.chars() {
-        characters.push(c)?;
-    }
-    Ok(characters)
 }
 
 /// The pieces of a pattern. Slashes at its ends are removed, since no path has them.
@@ -48,21 +40,29 @@ fn pieces(reporter: &Reporter<'_>, pattern: &str) -> Result<Vec<Piece>, Status> 
     Err(status)
 }
 
-/// The patterns of excluded paths.
-fn excludes_of(reporter: &Reporter<'_>, scan: &ScanAll<'_>) -> Result<Vec<Vec<Piece>>, Status> {
-    let mut excludes = Vec::new(reporter.rt.alloc());
-    for pattern in &scan.excludes {
-        if excludes.push(pieces(reporter, pattern)?).is_err() {
+/// The pieces of several patterns. Reports why a text is not a pattern.
+fn all_pieces(reporter: &Reporter<'_>, texts: &[&str]) -> Result<Vec<Vec<Piece>>, Status> {
+    let mut patterns = Vec::new(reporter.rt.alloc());
+    for text in texts {
+        if patterns.push(pieces(reporter, text)?).is_err() {
             return Err(reporter.say(Ending::Memory));
         }
     }
-    Ok(excludes)
+    Ok(patterns)
+}
+
+/// Returns the choice of the files of a map by these patterns. Reports why a text is not a pattern.
+pub fn only(reporter: &Reporter<'_>, texts: &[&str]) -> Result<Only, Status> {
+    Ok(Only {
+        alloc: reporter.rt.alloc(),
+        patterns: all_pieces(reporter, texts)?,
+    })
 }
 
 impl Patterns {
     /// Returns the patterns of a scan. Reports why a text is not a pattern.
     pub fn of(reporter: &Reporter<'_>, scan: &ScanAll<'_>) -> Result<Patterns, Status> {
-        let excludes = excludes_of(reporter, scan)?;
+        let excludes = all_pieces(reporter, &scan.excludes)?;
         let mut aligns = Vec::new(reporter.rt.alloc());
         for rule in &scan.aligns {
             let (pieces, align) = (pieces(reporter, rule.pattern)?, rule.align);

@@ -1,6 +1,5 @@
 //! Reads files into memory: images up to the size that they state, and manifests. A regular file
 //! that changes meanwhile is not read.
-use crate::stamp::{Identity, Stamp, let_rest};
 use command_line::size_named;
 use image_check::{HEAD, reach_of};
 use image_load::{Found, load};
@@ -11,6 +10,7 @@ use std::fs::{File, Metadata, OpenFile};
 use std::io::Read;
 use std::os::unix::fs::{FileExt, FileTypeExt};
 use std::{fs, io, str};
+use system_files::{Identity, Stamp, let_rest};
 
 /// The name by which the system opens standard input.
 pub const INPUT: &str = "/proc/self/fd/0";
@@ -66,11 +66,15 @@ fn most_of_image(rt: &HostRuntime) -> io::Result<Option<u64>> {
     }
 }
 
-/// Refuses an image of which more bytes would be read than the environment allows. Of a pipe this
-/// is not known beforehand.
-fn check_size(rt: &HostRuntime, file: &File, was: &Metadata) -> io::Result<()> {
-    let Some(most) = most_of_image(rt)? else {
-        return Ok(());
+/// Refuses an image of which more bytes would be read than the words or, without such words, the
+/// environment allow. Of a pipe this is not known beforehand.
+fn check_size(rt: &HostRuntime, most: Option<u64>, file: &File, was: &Metadata) -> io::Result<()> {
+    let most = match most {
+        Some(most) => most,
+        None => match most_of_image(rt)? {
+            Some(most) => most,
+            None => return Ok(()),
+        },
     };
     let mut front = [0; HEAD];
     let Ok(len) = file.read_at(&mut front, 0) else {
@@ -95,12 +99,12 @@ fn check_size(rt: &HostRuntime, file: &File, was: &Metadata) -> io::Result<()> {
 ///
 /// # Errors
 ///
-/// The operating system's error; `FileTooLarge` if the image has more bytes than the environment
-/// allows; `Changed` if a regular file changed while it was read.
-pub fn image(rt: &HostRuntime, name: &str) -> Result<Found, Unread> {
+/// The operating system's error; `FileTooLarge` if the image has more bytes than `most`, or without
+/// it than the environment allows; `Changed` if a regular file changed while it was read.
+pub fn image(rt: &HostRuntime, most: Option<u64>, name: &str) -> Result<Found, Unread> {
     let mut file = File::open(rt, name)?;
     let was = file.metadata()?;
-    check_size(rt, &file, &was)?;
+    check_size(rt, most, &file, &was)?;
     let found = load(rt.alloc(), &mut file, was.len())?;
     let (read, wanted) = match &found {
         Found::Image(image) => (

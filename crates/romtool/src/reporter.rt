@@ -11,7 +11,7 @@ use program_streams::Held;
 use rom_commands::{Ending, Status, report};
 use rom_faults::Fault;
 use rom_fields::Plain;
-use sentences::reasons::{NO_WORD, SOURCE_CHANGED};
+use sentences::reasons::{NO_SLASH, NO_WORD, SOURCE_CHANGED};
 use sentences::words::escaped;
 use sentences::{call_sentence, ending_sentence, fault_sentence, image};
 use std::alloc::AllocError;
@@ -69,6 +69,7 @@ fn sentence_of(ending: Ending<'_>) -> Option<&'static str> {
         Ending::ReadFault => ending_sentence(b"read fault"),
         Ending::WriteFault => ending_sentence(b"write fault"),
         Ending::TooManyReads => ending_sentence(b"too many reads"),
+        Ending::NoFile(error) if error.name() == b"EINVAL".as_slice() => Some(NO_SLASH),
         Ending::NoFile(error) => call_sentence(error.name()),
         _ => None,
     }
@@ -89,6 +90,8 @@ fn place_of<'a>(ending: Ending<'_>, path: &'a [u8]) -> &'a [u8] {
 #[derive(Clone, Copy)]
 pub struct Reporter<'a> {
     pub rt: &'a HostRuntime,
+    /// The most bytes of an image that is read, if the words give them.
+    pub most: Option<u64>,
     is_explained: bool,
 }
 
@@ -97,6 +100,7 @@ impl<'a> Reporter<'a> {
     pub fn new(rt: &'a HostRuntime) -> Reporter<'a> {
         Reporter {
             rt,
+            most: None,
             is_explained: has_explain(rt) || is_set(rt) || rt.stderr().is_terminal(),
         }
     }
@@ -104,9 +108,14 @@ impl<'a> Reporter<'a> {
     /// Returns the same reporter, with words for people or without them.
     pub fn with_words(&self, is_explained: bool) -> Reporter<'a> {
         Reporter {
-            rt: self.rt,
             is_explained,
+            ..*self
         }
+    }
+
+    /// Returns the same reporter, for images of at most this many bytes.
+    pub fn with_most(&self, most: Option<u64>) -> Reporter<'a> {
+        Reporter { most, ..*self }
     }
 
     /// Returns whether words for people are written as well.

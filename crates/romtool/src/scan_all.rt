@@ -1,30 +1,34 @@
 //! The manifest of directories as they are.
-use crate::aligning::align_all;
-use crate::beside::KeepError;
-use crate::depfile::Rule;
+use crate::aligning::{align_all, share_alignments};
+use crate::devices::{LineError, Listing, text_of_file};
+use crate::equal::share_equal;
 use crate::faked::check_faked;
 use crate::inventory::all_below;
-use crate::overlay::{OverlayError, is_directory, laid_over, sort};
+use crate::overlay::{OverlayError, file_at, is_directory, laid_over, sort};
 use crate::patterns::Patterns;
-use crate::place::{behind_links, directory_of, name_in_directory};
 use crate::reporter::Reporter;
-use crate::stamp::Identity;
-use crate::target::Target;
+use crate::rights::{Change, RightsError, set_all};
 use crate::unfit::Unfit;
-use crate::{depfile, devices, own_output, reading};
+use crate::watched::Watched;
+use crate::{depfile, device_table, devices, reading};
 use build_commands::inventory::{FileKind, NamedFile, lines, put_found};
 use command_line::{Owner, ScanAll};
+use make_rule::Rule;
 use manifest::Entry;
+use manifest::error::BAD_TARGET;
 use program_streams::Again;
 use rom_commands::{Ending, Status};
 use rom_fields::{Failed, Plain};
 use sentences::reasons::{
-    KINDS_DIFFER, LONG_NAME, MANIFEST_NOT_TAKEN, OWN_ERROR, OWN_FILE, OWN_STREAM, PART_REPLACED,
-    SCANNED,
+    KINDS_DIFFER, LONG_NAME, MANIFEST_NOT_TAKEN, NO_SUCH_FILE, OWN_ERROR, OWN_FILE, OWN_STREAM,
+    PART_REPLACED, SCANNED,
 };
-use std::alloc::AllocError;
+use std::alloc::{AllocError, Global};
 use std::io::{self, BufWriter};
 use std::{env, fs, str};
+use system_files::{
+    Identity, KeepError, Target, behind_links, directory_of, name_in_directory, own_output,
+};
 
 /// The most bytes of a volume's name.
 const MOST_VOLUME: usize = 255;
@@ -53,21 +57,120 @@ fn own_all(found: &mut [NamedFile], owner: Option<Owner>) {
     }
 }
 
-/// Lays the files of a list over those that were found, if one is named.
-fn with_devices(
+/// The change that a directory of a list makes, if the directory was found.
+fn change_by(alloc: Global, found: &[NamedFile], file: &NamedFile) -> Option<Change> {
+    let is_there = is_directory(file) && file_at(found, file.path()).is_some_and(is_directory);
+    if !is_there {
+        return None;
+    }
+    Some(Change {
+        line: file.inode.number,
+        path: String::from_str(alloc, &file.place).ok()?,
+        mode: Some(file.mode),
+        uid: file.uid,
+        gid: file.gid,
+    })
+}
+
+/// Adds the files of a list to those that were found, except directories that were found: of these,
+/// the attributes are to be set.
+fn add_listed(
+    alloc: Global,
+    found: &mut Vec<NamedFile>,
+    listed: Listing,
+) -> Result<Vec<Change>, AllocError> {
+    let Listing { files, mut changes } = listed;
+    let mut more = Vec::new(alloc);
+    for file in files {
+        match change_by(alloc, found, &file) {
+            Some(change) => changes.push(change)?,
+            None => more.push(file)?,
+        }
+    }
+    for file in more {
+        found.push(file)?;
+    }
+    Ok(changes)
+}
+
+/// Sets attributes of files, by the list in the file of this name.
+fn set_rights(
     reporter: &Reporter<'_>,
-    devices: Option<&str>,
+    name: &str,
+    found: &mut [NamedFile],
+    changes: &[Change],
+) -> Result<(), Status> {
+    match set_all(reporter.rt.alloc(), found, changes) {
+        Ok(()) => Ok(()),
+        Err(RightsError::OutOfMemory) => Err(reporter.say(Ending::Memory)),
+        Err(RightsError::Missing(line)) => {
+            let why = LineError::Other(BAD_TARGET, NO_SUCH_FILE);
+            Err(devices::refuse(reporter, name, b"", line, why))
+        }
+    }
+}
+
+/// Sets the attributes that the table in the file of this name has for files that were found, and
+/// lays its own files over them.
+fn with_table(
+    reporter: &Reporter<'_>,
+    name: &str,
+    table: Listing,
     mut found: Vec<NamedFile>,
 ) -> Result<Vec<NamedFile>, Status> {
-    let Some(name) = devices else {
-        return Ok(found);
-    };
-    for file in devices::listed(reporter, name, &found)? {
+    let Listing { files, changes } = table;
+    set_rights(reporter, name, &mut found, &changes)?;
+    for file in files {
         if found.push(file).is_err() {
             return Err(reporter.say(Ending::Memory));
         }
     }
     laid(reporter, found)
+}
+
+/// Lays the files of the list in the file of this name over those that were found, and sets the
+/// attributes that it has for files, in the order of its lines.
+fn with_list(
+    reporter: &Reporter<'_>,
+    name: &str,
+    listed: Listing,
+    mut found: Vec<NamedFile>,
+) -> Result<Vec<NamedFile>, Status> {
+    let Ok(mut changes) = add_listed(reporter.rt.alloc(), &mut found, listed) else {
+        return Err(reporter.say(Ending::Memory));
+    };
+    if changes
+        .sort_by(|a: &Change, b: &Change| a.line.cmp(&b.line))
+        .is_err()
+    {
+        return Err(reporter.say(Ending::Memory));
+    }
+    let mut found = laid(reporter, found)?;
+    set_rights(reporter, name, &mut found, &changes)?;
+    Ok(found)
+}
+
+/// Lays the files of the table of devices and of the list of devices over those that were found, if
+/// they are named.
+fn with_devices(
+    reporter: &Reporter<'_>,
+    scan: &ScanAll<'_>,
+    mut found: Vec<NamedFile>,
+    watched: &mut Vec<Watched>,
+) -> Result<Vec<NamedFile>, Status> {
+    if let Some(name) = scan.device_table {
+        let text = text_of_file(reporter, name, watched)?;
+        let table = device_table::listed(reporter, name, &text, &found)?;
+        found = with_table(reporter, name, table, found)?;
+    }
+    match scan.devices {
+        Some(name) => {
+            let text = text_of_file(reporter, name, watched)?;
+            let listed = devices::listed(reporter, name, &text, &found)?;
+            with_list(reporter, name, listed, found)
+        }
+        None => Ok(found),
+    }
 }
 
 /// Whether the next scan would find a file of this name in a directory that was found.
@@ -112,12 +215,23 @@ fn check_output(
     }
 }
 
-/// All files of the manifest, in the order of its lines. Files of these names are written.
+/// What a scan found.
+#[derive(Drop)]
+struct Found {
+    /// All files of the manifest, in the order of its lines.
+    files: Vec<NamedFile>,
+    /// The names of all directories, those that others were laid over included.
+    directories: Vec<String>,
+    /// The files that were read.
+    watched: Vec<Watched>,
+}
+
+/// Returns what a scan finds. Files of these names are written.
 fn all_found(
     reporter: &Reporter<'_>,
     scan: &ScanAll<'_>,
     written: &[Option<&str>],
-) -> Result<Vec<NamedFile>, Status> {
+) -> Result<Found, Status> {
     let patterns = Patterns::of(reporter, scan)?;
     let found = all_below(reporter, scan, &patterns)?;
     for name in written {
@@ -125,25 +239,43 @@ fn all_found(
             check_output(reporter, name, &found, &patterns)?;
         }
     }
+    let Ok(directories) = directories_of(reporter.rt, &found) else {
+        return Err(reporter.say(Ending::Memory));
+    };
     let mut found = laid(reporter, found)?;
     own_all(&mut found, scan.owner);
     align_all(reporter, &patterns, scan.align, &mut found)?;
-    with_devices(reporter, scan.devices, found)
+    let mut watched = Vec::new(reporter.rt.alloc());
+    let mut files = with_devices(reporter, scan, found, &mut watched)?;
+    if scan.dedupe {
+        for file in share_equal(reporter, &mut files)? {
+            if watched.push(file).is_err() {
+                return Err(reporter.say(Ending::Memory));
+            }
+        }
+        share_alignments(reporter, &mut files)?;
+    }
+    Ok(Found {
+        files,
+        directories,
+        watched,
+    })
 }
 
-/// Which files a manifest is made of: those that it names, and the file of devices.
-fn inputs_of(
-    rt: &HostRuntime,
-    devices: Option<&str>,
-    found: &[NamedFile],
-) -> io::Result<Vec<Identity>> {
+/// Which files a manifest is made of: those that were found or read, and the files of devices.
+fn inputs_of(rt: &HostRuntime, scan: &ScanAll<'_>, found: &Found) -> io::Result<Vec<Identity>> {
     let mut all = Vec::new(rt.alloc());
-    if let Some(name) = devices
-        && let Ok(there) = fs::metadata(rt, name)
-    {
-        all.push(Identity::of(&there))?;
+    for name in [scan.devices, scan.device_table] {
+        if let Some(name) = name
+            && let Ok(there) = fs::metadata(rt, name)
+        {
+            all.push(Identity::of(&there))?;
+        }
     }
-    for file in found {
+    for file in &found.watched {
+        all.push(file.state.identity())?;
+    }
+    for file in &found.files {
         all.push(Identity::at(file.inode.device, file.inode.number))?;
     }
     Ok(all)
@@ -154,11 +286,11 @@ fn inputs_of(
 fn target_of(
     reporter: &Reporter<'_>,
     name: &str,
-    devices: Option<&str>,
-    found: &[NamedFile],
+    scan: &ScanAll<'_>,
+    found: &Found,
 ) -> Result<Target, Status> {
     let rt = reporter.rt;
-    let mut inputs = match inputs_of(rt, devices, found) {
+    let mut inputs = match inputs_of(rt, scan, found) {
         Ok(inputs) => inputs,
         Err(e) => return Err(reporter.refused(name.as_bytes(), &e)),
     };
@@ -277,33 +409,24 @@ fn has_text(reporter: &Reporter<'_>, name: &str, volume: &[u8], lines: &[Entry<'
     }
 }
 
-/// The names of what was scanned, as make reads them: regular files, the file of devices, and
-/// directories.
-#[derive(Drop)]
-struct Scanned {
-    files: Vec<String>,
-    directories: Vec<String>,
-}
-
-impl Scanned {
-    /// Returns the names of the files that were found.
-    fn of(
-        rt: &HostRuntime,
-        devices: Option<&str>,
-        found: &[NamedFile],
-    ) -> Result<Scanned, AllocError> {
-        let mut files = Vec::new(rt.alloc());
-        for file in found {
-            if matches!(file.kind, FileKind::Regular) && !file.place.is_empty() {
-                files.push(String::from_str(rt.alloc(), &file.place)?)?;
-            }
+/// The names of the regular files that were found, and of the files of devices.
+fn names_of(
+    rt: &HostRuntime,
+    scan: &ScanAll<'_>,
+    found: &[NamedFile],
+) -> Result<Vec<String>, AllocError> {
+    let mut names = Vec::new(rt.alloc());
+    for file in found {
+        if matches!(file.kind, FileKind::Regular) && !file.place.is_empty() {
+            names.push(String::from_str(rt.alloc(), &file.place)?)?;
         }
-        if let Some(name) = devices {
-            files.push(String::from_str(rt.alloc(), name)?)?;
-        }
-        let directories = directories_of(rt, found)?;
-        Ok(Scanned { files, directories })
     }
+    for name in [scan.devices, scan.device_table] {
+        if let Some(name) = name {
+            names.push(String::from_str(rt.alloc(), name)?)?;
+        }
+    }
+    Ok(names)
 }
 
 /// Opens the file of a rule and writes it there, if one is asked for. It gets its name after the
@@ -312,18 +435,18 @@ fn rule_of(
     reporter: &Reporter<'_>,
     scan: &ScanAll<'_>,
     out: &str,
-    found: &[NamedFile],
+    found: &Found,
     image: &Target,
 ) -> Result<Option<Target>, Status> {
     let (Some(name), rt) = (scan.depfile, reporter.rt) else {
         return Ok(None);
     };
-    let Ok(scanned) = Scanned::of(rt, scan.devices, found) else {
+    let Ok(names) = names_of(rt, scan, &found.files) else {
         return Err(reporter.say(Ending::Memory));
     };
     let mut sources = Vec::new(rt.alloc());
-    for file in &scanned.files {
-        if sources.push(file.as_str()).is_err() {
+    for name in &names {
+        if sources.push(name.as_str()).is_err() {
             return Err(reporter.say(Ending::Memory));
         }
     }
@@ -331,10 +454,10 @@ fn rule_of(
         out,
         manifest: None,
         sources: &sources,
-        directories: &scanned.directories,
+        directories: &found.directories,
     };
     depfile::check(reporter, name, rule)?;
-    let target = target_of(reporter, name, scan.devices, found)?;
+    let target = target_of(reporter, name, scan, found)?;
     Ok(Some(depfile::written(reporter, name, rule, target, image)?))
 }
 
@@ -368,13 +491,13 @@ fn keep(
     reporter: &Reporter<'_>,
     scan: &ScanAll<'_>,
     volume: &[u8],
-    found: &[NamedFile],
+    found: &Found,
     lines: &[Entry<'_>],
 ) -> Result<(), Status> {
     let Some(name) = scan.output else {
         return Ok(());
     };
-    let target = target_of(reporter, name, scan.devices, found)?;
+    let target = target_of(reporter, name, scan, found)?;
     let rule = match rule_of(reporter, scan, name, found, &target) {
         Ok(rule) => rule,
         Err(status) => {
@@ -399,7 +522,7 @@ fn scan(reporter: &Reporter<'_>, scan: &ScanAll<'_>) -> Result<(), Status> {
     check_faked(reporter, &scan.directories)?;
     let volume = volume_of(reporter, scan)?;
     let found = all_found(reporter, scan, &[scan.output, scan.depfile])?;
-    let (lines, unfit) = lines_of(reporter, scan, &found)?;
+    let (lines, unfit) = lines_of(reporter, scan, &found.files)?;
     match scan.output {
         Some(_) => keep(reporter, scan, volume, &found, &lines)?,
         None => print(reporter, volume, &lines)?,
@@ -416,11 +539,13 @@ pub fn run(reporter: &Reporter<'_>, asked: &ScanAll<'_>) -> Status {
     }
 }
 
-/// The text of the manifest of directories, and all directories that were found.
+/// The text of the manifest of directories, all directories that were found, and the files that
+/// were read.
 #[derive(Drop)]
 pub struct ScannedText {
     pub text: Vec<u8>,
     pub directories: Vec<String>,
+    pub watched: Vec<Watched>,
 }
 
 /// A directory's name as make reads it. A dot by itself is no name for make, so it is spelled as
@@ -443,6 +568,24 @@ fn directories_of(rt: &HostRuntime, found: &[NamedFile]) -> Result<Vec<String>, 
     Ok(directories)
 }
 
+/// The text of the manifest of what was found, which is written into a file as well if one is asked
+/// for.
+fn text_of(
+    reporter: &Reporter<'_>,
+    scan: &ScanAll<'_>,
+    volume: &[u8],
+    found: &Found,
+) -> Result<Vec<u8>, Status> {
+    let (lines, unfit) = lines_of(reporter, scan, &found.files)?;
+    let mut text = Plain::new(Vec::new(reporter.rt.alloc()));
+    if put_found(&mut text, volume, &lines).is_err() {
+        return Err(reporter.say(Ending::Memory));
+    }
+    keep(reporter, scan, volume, found, &lines)?;
+    unfit.explain(reporter, scan);
+    Ok(text.into_inner())
+}
+
 /// Returns the text of the manifest of directories, and writes it into a file as well if one is
 /// asked for. Files of these names are written later.
 pub fn scanned_text(
@@ -453,18 +596,15 @@ pub fn scanned_text(
     check_faked(reporter, &scan.directories)?;
     let volume = volume_of(reporter, scan)?;
     let found = all_found(reporter, scan, written)?;
-    let (lines, unfit) = lines_of(reporter, scan, &found)?;
-    let mut text = Plain::new(Vec::new(reporter.rt.alloc()));
-    if put_found(&mut text, volume, &lines).is_err() {
-        return Err(reporter.say(Ending::Memory));
-    }
-    keep(reporter, scan, volume, &found, &lines)?;
-    unfit.explain(reporter, scan);
-    let Ok(directories) = directories_of(reporter.rt, &found) else {
-        return Err(reporter.say(Ending::Memory));
-    };
-    Ok(ScannedText {
-        text: text.into_inner(),
+    let text = text_of(reporter, scan, volume, &found)?;
+    let Found {
+        files: _,
         directories,
+        watched,
+    } = found;
+    Ok(ScannedText {
+        text,
+        directories,
+        watched,
     })
 }

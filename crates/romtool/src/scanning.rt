@@ -1,5 +1,5 @@
 //! Prints the manifest of a directory.
-use crate::directories::{all_stayed, base};
+use crate::directories::all_stayed;
 use crate::lister::{self, Survey};
 use crate::reporter::Reporter;
 use command_line::Scan;
@@ -11,11 +11,17 @@ use rom_fields::Plain;
 use std::alloc::{AllocError, Global};
 use std::fs::{FileType, Metadata};
 use std::io::{self, BufWriter};
-use std::os::unix::fs::FileTypeExt;
+use std::os::unix::fs::{FileTypeExt, MetadataExt};
+use system_files::base;
 
-/// The numbers of files of other kinds, which were ignored.
+/// The bits of a mode by which someone may execute a file.
+const EXECUTABLE: u32 = 0o111;
+
+/// The numbers of files of other kinds, which were ignored, and of regular files that lose the
+/// permission to be executed.
 #[derive(Clone, Copy, Default)]
 struct PassedOver {
+    programs: u64,
     links: u64,
     devices: u64,
     others: u64,
@@ -55,9 +61,16 @@ impl PassedOver {
                 kinds.push_str(&format!(in alloc; "{comma}{count} {kind}")?)?;
             }
         }
+        let more = "scan --all keeps them, with all modes and owners";
         if !kinds.is_empty() {
-            let more = "modes and owners are not kept: scan --all keeps them";
-            let what = format!(in alloc; "skipped {kinds}; {more}")?;
+            let what = format!(in alloc; "skipped {kinds}: {more}")?;
+            reporter.explain(directory.as_bytes(), &what);
+        }
+        if self.programs > 0 {
+            let what = format!(in alloc;
+                "files that can be executed and get the mode 0644: {}; {more}",
+                self.programs
+            )?;
             reporter.explain(directory.as_bytes(), &what);
         }
         Ok(())
@@ -79,6 +92,9 @@ impl Survey for PassedOver {
         _place: &str,
         metadata: &Metadata,
     ) -> io::Result<Option<bool>> {
+        if metadata.is_file() && metadata.mode() & EXECUTABLE != 0 {
+            self.programs = self.programs.saturating_add(1);
+        }
         if metadata.is_dir() || metadata.is_file() {
             return Ok(Some(metadata.is_dir()));
         }

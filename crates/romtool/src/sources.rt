@@ -2,15 +2,14 @@
 ghost use Rattle.std.specs.Prelude.{◌≡◌, length, map, IfOk};
 ghost use Rattle.romtool.specs.Sources.{joined, needs_slash};
 
-use crate::disk::stamp_unlinked;
 use crate::origin::Origin;
 use crate::reporter::Reporter;
-use crate::stamp::{Stamp, stamp_of};
 use manifest::Name;
 use rom_commands::{Ending, Status};
 use sentences::reasons::NO_TEXT;
 use std::alloc::AllocError;
 use std::{io, str};
+use system_files::{Stamp, stamp_of, stamp_unlinked};
 
 /// The most missing sources that are reported one by one.
 const MOST_SAID: u64 = 20;

@@ -3,7 +3,7 @@ use Rattle.rom_tree.specs.Image.{Image}
 use Rattle.image_check.specs.Any.{any_view}
 use Rattle.image_extract.specs.Members.{members_in}
 use Rattle.image_extract.specs.declared.giving.Giving.{Giving}
-use Rattle.romtool.proofs.members.Extraction.fill.Goals as goal
+use Rattle.romtool.proofs.extraction.Extraction.fill.Goals as goal
 
 -- the root is always a member
 some_member : (g : Giving) (m : Image) → 0 < length (members_in g m)

@@ -1,22 +1,19 @@
-//! Compares an image with the bytes of a dump.
+//! A dump that is compared with an image.
 ghost use Rattle.std.specs.Prelude.{◌≤◌};
 ghost use Rattle.rom_tree.specs.Tree.{IsShallow};
 ghost use Rattle.image_check.specs.Any.{any_view};
 
 use crate::reporter::Reporter;
-use crate::sound::{checked, read};
 use command_line::Verify;
 use image_check::AnyImage;
 use image_digest::{compare, find_holder, pass_over};
-use inspect_commands::print_verdict;
 use memchr::memmem;
-use program_streams::{Again, Ahead, Held, read_until};
-use rom_commands::{Ending, Status};
+use program_streams::{Ahead, read_until};
 use rom_fields::Plain;
 use rom_tree::TreeImage;
 use std::alloc::AllocError;
 use std::fs::{File, OpenFile};
-use std::io::{self, BufReader, BufWriter, Seek, SeekFrom};
+use std::io::{self, BufReader, Seek, SeekFrom};
 use std::str;
 
 /// The number of bytes by which the front of an image is found in a dump.
@@ -25,23 +22,12 @@ const FRONT: usize = 64;
 /// The most bytes of a dump that are searched for it.
 const SEARCHED: u64 = 64 << 20;
 
-/// Compares the image in a file with a dump, and prints the result.
-pub fn run(reporter: &Reporter<'_>, asked: Verify<'_>) -> Status {
-    let bytes = match read(reporter, asked.image) {
-        Ok(bytes) => bytes,
-        Err(status) => return status,
-    };
-    match checked(reporter, asked.image, &bytes) {
-        Ok(image) => match difference(reporter.rt, image.bytes(), asked) {
-            Ok(found) => report(reporter, &image, asked, found),
-            Err(e) => reporter.refused(asked.dump.as_bytes(), &e),
-        },
-        Err(status) => status,
-    }
-}
-
-/// The offset of the first byte of an image that a dump does not have.
-fn difference(rt: &HostRuntime, image: &[u8], asked: Verify<'_>) -> io::Result<Option<usize>> {
+/// Returns the offset of the first byte of an image that a dump does not have.
+///
+/// # Errors
+///
+/// The operating system's error.
+pub fn difference(rt: &HostRuntime, image: &[u8], asked: Verify<'_>) -> io::Result<Option<usize>> {
     let mut file = File::open(rt, asked.dump)?;
     let left = match file.seek(SeekFrom::Start(asked.offset)) {
         Ok(_) => 0,
@@ -50,32 +36,6 @@ fn difference(rt: &HostRuntime, image: &[u8], asked: Verify<'_>) -> io::Result<O
     let mut dump = Ahead::new(BufReader::new(rt.alloc(), file)?);
     pass_over(&mut dump, left)?;
     compare(image, &mut dump)
-}
-
-/// Prints the result of a comparison, and explains where the dump differs.
-fn report(
-    reporter: &Reporter<'_>,
-    image: &AnyImage<'_>,
-    asked: Verify<'_>,
-    found: Option<usize>,
-) -> Status
-    requires { IsShallow (any_view image.now).tree }
-{
-    let rt = reporter.rt;
-    let Ok(out) = BufWriter::new(rt.alloc(), Again::new(io::writer(rt))) else {
-        return reporter.say(Ending::Memory);
-    };
-    let mut out = Plain::new(out);
-    let mut err = Plain::new(Held::new(rt.alloc(), rt.stderr()));
-    let ending = print_verdict(image.bytes().len(), found, &mut out, &mut err);
-    reporter.finish(err, ending, b"");
-    if ending == Ending::Warned
-        && reporter.is_explained()
-        && let Some(at) = found
-    {
-        let _ = explain(reporter, image, asked, at);
-    }
-    ending.status()
 }
 
 /// The offset in the dump at which the image begins, if its front is there.
@@ -89,7 +49,11 @@ fn offset_in(rt: &HostRuntime, dump: &str, image: &[u8]) -> Option<usize> {
 }
 
 /// Explains where the dump differs.
-fn explain(
+///
+/// # Errors
+///
+/// `AllocError` if memory was refused.
+pub fn explain(
     reporter: &Reporter<'_>,
     image: &AnyImage<'_>,
     asked: Verify<'_>,
