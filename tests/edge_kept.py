@@ -11,6 +11,7 @@ is skipped if it is missing. The last line is `N passed, M failed`, with `, K sk
 """
 
 import contextlib
+import errno
 import os
 import re
 import resource
@@ -124,6 +125,8 @@ def printing(binary):
     yield ["which", "image", "ffffffff"], 1
     yield ["linux", "image"], 0
     yield ["xip", "image"], 0
+    yield ["map", "--ld", "image"], 0
+    yield ["numbers", "image"], 0
     yield ["digest", "image"], 0
     yield ["digest", "--image", "image"], 0
     yield ["verify", "image", "image"], 0
@@ -151,12 +154,13 @@ def output_whose_closing_fails(binary):
         with open("kept", "wb") as kept:
             made, done = traced.calls(binary, *words, stdout=kept, stdin=subprocess.DEVNULL)
         dup = next((it for it in made if it.text.startswith("fcntl(1, F_DUPFD")), None)
-        if done.returncode != status or not dup or made[made.index(dup) + 1].name != "close":
+        closing = next((it for it in made[made.index(dup) :] if it.name == "close"), None) if dup else None
+        if done.returncode != status or not closing:
             yield "%s: %r" % (words, answer(done))
             continue
         for fault in FAULTS:
             forget()
-            told = traced.inject("close", "error=" + fault, made[made.index(dup) + 1].number)
+            told = traced.inject("close", "error=" + fault, closing.number)
             with open("kept", "wb") as kept:
                 done = traced.run(binary, *words, told=told, stdout=kept, stdin=subprocess.DEVNULL)
             if (done.stderr, done.returncode) != LOST[1:]:
@@ -181,15 +185,15 @@ def image_stays_where_its_line_is_lost(binary):
 # file systems that lose
 
 
-def wrong_on(binary, folder, image):
-    """Yields what is wrong on such a file system, which has room for one image."""
+def wrong_on(binary, folder, image, words=FAULTS["ENOSPC"]):
+    """Yields what is wrong on such a file system, which has room for one image. Its error has these words."""
     out = folder + "/out"
     first = run(binary, "build", "romfs", "m", out)
     if answer(first) != (b"ok %d\n" % len(image), b"", 0) or bytes_in(out) != image:
         yield "the first image: %r" % (answer(first),)
     put("a", b"other" * 200)
     second = run(binary, "--explain", "build", "romfs", "m", out)
-    said = "file %s\nromtool: %s: %s\n" % (out, out, FAULTS["ENOSPC"])
+    said = "file %s\nromtool: %s: %s\n" % (out, out, words)
     if answer(second) != (b"", said.encode(), 3) or bytes_in(out) != image:
         yield "the second image: %r" % (answer(second),)
     if os.listdir(folder) != ["out"]:
@@ -202,7 +206,7 @@ def wrong_on(binary, folder, image):
             yield "%s: %r" % (words, answer(done))
 
 
-def file_system_that_loses(binary, *more):
+def file_system_that_loses(binary, *more, words=FAULTS["ENOSPC"]):
     """An image, and what is printed, is never lost without a message on a file system that reports a loss at the closing."""
     if not fuse.is_there():
         yield None
@@ -212,9 +216,15 @@ def file_system_that_loses(binary, *more):
     put("image", image)
     with fuse.mounted("lossy", str(len(image) + 1), *more) as folder:
         if folder:
-            yield from wrong_on(binary, folder, image)
+            yield from wrong_on(binary, folder, image, words)
         else:
             yield None
+
+
+def file_system_that_loses_with_another_error(binary):
+    """The same with errors that hardly any close has: that a name is too long, or has too many links."""
+    for error in (errno.ENAMETOOLONG, errno.ELOOP):
+        yield from file_system_that_loses(binary, str(error), words=os.strerror(error))
 
 
 def file_system_that_loses_when_synced(binary):
@@ -443,7 +453,8 @@ def images_that_are_too_large(binary):
 
 TESTS = [
     one_descriptor, part_whose_closing_fails, device_whose_closing_fails, output_whose_closing_fails,
-    image_stays_where_its_line_is_lost, file_system_that_loses, file_system_that_loses_when_synced,
+    image_stays_where_its_line_is_lost, file_system_that_loses, file_system_that_loses_with_another_error,
+    file_system_that_loses_when_synced,
     file_server_that_is_full, out_is_standard_output, device_that_keeps_nothing, group_of_out,
     source_that_is_a_link, source_that_becomes_a_link, reason_of_a_source, out_of_another_user, images_that_are_too_large,
 ]  # fmt: skip

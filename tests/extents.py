@@ -290,6 +290,38 @@ int main(void) { %s return Flash_SIZE == 0; }
             raise Wrong("%s: %r" % (compiler, [it for it in zip(shown, wanted) if it[0] != it[1]][:1]))
 
 
+def compare_script(binary, image, base, folder):
+    """Compares the symbols that GNU ld takes from the script with the list and the map."""
+    done = ran(binary, "map", "--ld", "--prefix", "Flash", "--base", "%x" % base, image)
+    if done.returncode or done.stderr:
+        raise Wrong("map --ld: %r" % done.stderr)
+    wanted = {"Flash_BASE": base, "Flash_SIZE": None}
+    for path, runs in mapped(binary, image, base):
+        name = "Flash" + identifier(raw(path))
+        wanted[name + "_LENGTH"] = sum(it[1] for it in runs)
+        if len(runs) == 1:
+            wanted[name + "_ADDRESS"] = base + runs[0][0]
+    found = re.findall(r"^PROVIDE\((\w+) = (\w+)\);$", done.stdout.decode("ascii"), re.M)
+    shown = {name: int(value, 0) for name, value in found}
+    wanted["Flash_SIZE"] = shown.get("Flash_SIZE")
+    if shown != wanted or len(found) != len(shown):
+        raise Wrong("map --ld: %r" % [it for it in shown.items() if it not in wanted.items()][:1])
+    names = sorted(wanted)
+    with open(os.path.join(folder, "image.ld"), "wb") as file:
+        file.write(done.stdout)
+    with open(os.path.join(folder, "symbols.c"), "w", encoding="ascii") as file:
+        file.write("".join("extern const char %s[];\n" % name for name in names))
+        file.write("const char *const symbols[] = {%s};\nint main(void) { return 0; }\n" % ", ".join(names))
+    words = ["cc", "-no-pie", "-mcmodel=large", "symbols.c", "image.ld", "-o", "symbols"]
+    linked = subprocess.run(words, cwd=folder, capture_output=True)
+    if linked.returncode:
+        raise Wrong("ld: %s" % linked.stderr.decode()[:300])
+    table = subprocess.run(["nm", "symbols"], cwd=folder, capture_output=True, text=True, check=True).stdout
+    seen = {line.split()[2]: int(line.split()[0], 16) for line in table.splitlines() if "Flash_" in line or "Flash" in line}
+    if seen != wanted:
+        raise Wrong("ld: %r" % [it for it in seen.items() if it not in wanted.items()][:1])
+
+
 def compare_marks(root):
     """Checks that no mark of a picture is after the end of the last bar of its row."""
     ends = {}
@@ -335,6 +367,7 @@ def compare(binary, image, base, folder, chance, compiles):
     compare_picture(binary, image, data, base, lines)
     if compiles:
         compare_header(binary, image, base, folder)
+        compare_script(binary, image, base, folder)
 
 
 # images
@@ -468,6 +501,23 @@ def prefixes(binary, folder):
         raise Wrong("map --c --prefix a_1: %r" % done.stdout[:200])
 
 
+def chosen(binary, folder):
+    """A header and a script have the files that a pattern matches, and no others."""
+    with open(os.path.join(folder, "manifest"), "w", encoding="ascii") as file:
+        file.write("".join("file /f%03d 0644 0 0 4 manifest\n" % number for number in range(12)))
+    ran(binary, "build", "romfs", "manifest", "image", cwd=folder)
+    image = os.path.join(folder, "image")
+    for words, wanted in [([], range(12)), (["--only", "f00[1-3]"], range(1, 4)), (["--only", "/f00?/", "--only", "f010"], range(11))]:
+        for form, pattern in (("--c", rb"^#define ROM_f(\d+)_LENGTH "), ("--ld", rb"^PROVIDE\(ROM_f(\d+)_LENGTH ")):
+            done = ran(binary, "map", form, *words, image)
+            found = [int(it) for it in re.findall(pattern, done.stdout, re.M)]
+            if done.returncode or found != list(wanted):
+                raise Wrong("map %s %s: %r" % (form, words, found))
+    for words in (["--only", "x"], ["--ld", "--c"], ["--ld", "--only", "["], ["--svg", "--only", "x"], ["--ld", "--prefix", "1"]):
+        if answer(binary, "map", *words, image) != ([], b"usage\n", 2):
+            raise Wrong("map %s" % words)
+
+
 def main():
     reader = parser("Compares what the program says of where bytes are with another reader.")
     reader.add_argument("--count", type=int, default=120, help="how many manifests")
@@ -499,6 +549,7 @@ def main():
     with tempfile.TemporaryDirectory() as folder:
         try:
             prefixes(binary, folder)
+            chosen(binary, folder)
             counts.passes()
         except Wrong as wrong:
             counts.fails("prefixes", [str(wrong)])

@@ -52,6 +52,34 @@ def options(chance):
     return scan, build
 
 
+def partitions(tester):
+    """OUT has the bytes of a partition: the image, and then others; a larger image is refused."""
+    room = tester.room
+    os.makedirs(f"{room}/tiny")
+    put(f"{room}/tiny/a", b"abc")
+    words = ["pack", "--quiet", "--all-root", "romfs", "tiny", "out"]
+    tester.is_same("an image", tester.run(words), ("ok 1024\n", "", 0))
+    image = bytes_in(f"{room}/out")
+    sizes = [(["--size", "8K"], b"\xff"), (["--size=8192", "--fill", "0"], b"\0"), (["--size", "0x2000", "--fill", "0x5a"], b"Z")]
+    for more, rest in sizes:
+        tester.is_same(f"{more}", tester.run([words[0], *more, *words[1:]]), ("ok 1024\n", "", 0))
+        tester.is_same(f"{more}: bytes", bytes_in(f"{room}/out") == image + rest * 7168, True)
+        tester.is_same(f"{more}: it is accepted", tester.run(["check", "out"]), ("ok romfs 3 1\n", "", 0))
+    tester.is_same("exactly its size", tester.run([words[0], "--size", "1K", *words[1:]]), ("ok 1024\n", "", 0))
+    tester.is_same("exactly its size: bytes", bytes_in(f"{room}/out") == image, True)
+    put(f"{room}/out", b"old")
+    tester.is_same("too large", tester.run([words[0], "--size", "1023", *words[1:]]), ("size 1024 1023\n", "", 1))
+    tester.is_same("the lesser", tester.run([words[0], "--size", "8K", "--max-size", "9", *words[1:]]), ("size 1024 9\n", "", 1))
+    for more in (["--fill", "0"], ["--size", "8K", "--fill", "256"], ["--size", "8K", "--fill", "x"], ["--size", "x"]):
+        tester.is_same(f"{more}", tester.run([words[0], *more, *words[1:]]), ("", "usage\n", 2))
+    tester.is_same("what is refused leaves OUT", bytes_in(f"{room}/out"), b"old")
+    put(f"{room}/m", b"file /a 0644 0 0 4 tiny/a\n")
+    tester.is_same("build", tester.run(["build", "--size", "2K", "romfs", "m", "out"]), ("ok 1024\n", "", 0))
+    tester.is_same("build: bytes", bytes_in(f"{room}/out")[1024:] == b"\xff" * 1024, True)
+    if os.path.exists("/dev/full"):
+        tester.is_same("no room", tester.run(["build", "--size", "2K", "romfs", "m", "/dev/full"]), ("", "file /dev/full\n", 3))
+
+
 def in_two_steps(tester, wanted, options_of, tops):
     """Returns what a scan and a build print, with their status, and the manifest."""
     scan, build = options_of
@@ -190,7 +218,7 @@ def main():
     with tempfile.TemporaryDirectory(prefix="romtool-") as room:
         tester = Tester(program_of(arguments), Counts(), room)
         try:
-            for test in (words_for_people, refused, rebuilds, faked):
+            for test in (partitions, words_for_people, refused, rebuilds, faked):
                 test(tester)
             for seed in range(arguments.first, arguments.first + arguments.count):
                 one_directory(tester, seed, random.Random(seed))

@@ -293,6 +293,151 @@ def devices(tester):
         tester.is_same("devices: FILE stays", file.readline(), "# a table\n")
 
 
+def attributes(tester):
+    """Lines `mode` set attributes, those of all names of a file, before --for applies; each needs a file."""
+    room = tester.room
+    os.makedirs(f"{room}/modes/bin")
+    put(f"{room}/modes/bin/a", b"a", 0o755)
+    os.link(f"{room}/modes/bin/a", f"{room}/modes/b")
+    os.chmod(f"{room}/modes", 0o755)
+    with open(f"{room}/list", "w", encoding="ascii") as file:
+        file.write("mode /b 4750 1 2\nmode / 0700 3 4\ndir /bin 0711 5 6\npipe /p 0600 0 0\nmode /p 0640 7 8\n")
+    wanted = "dir / 0700 3 4\nfile /b 4750 1 2 4 modes/b\ndir /bin 0711 5 6\nhard /bin/a /b\npipe /p 0640 7 8\n"
+    words = ["scan", "--all", "--all-root", "--devices", "list"]
+    tester.is_same("attributes", tester.run([*words, "modes"]), (wanted, "", 0))
+    said = tester.run([*words, "--for", "romfs", "modes"])[0].splitlines()[1]
+    tester.is_same("attributes: --for", said, "file /b 0755 0 0 4 modes/b")
+    with open(f"{room}/list", "w", encoding="ascii") as file:
+        file.write("mode /b 0750 1 2\nmode /none 0750 1 2\n")
+    tester.is_same("attributes: no file", tester.run([*words, "modes"]), ("", "manifest 2 7 BadTarget\n", 1))
+    words += ["-o", "out", "--depfile", "rule"]
+    with open(f"{room}/list", "w", encoding="ascii") as file:
+        file.write("dir /bin 0711 5 6\ndir /new 0755 0 0\n")
+    tester.is_same("attributes: a rule", tester.run([*words, "modes"]), ("", "", 0))
+    with open(f"{room}/rule", encoding="ascii") as file:
+        named = file.read().split("\n\n")[0].replace("\\\n", "").split()
+    tester.is_same("attributes: scanned names", named, ["out:", "modes/b", "modes/bin/a", "list", "modes", "modes/bin"])
+
+
+def device_tables(tester):
+    """A table of makedevs, as Buildroot's manual describes it; each kind of bad line is named."""
+    room = tester.room
+    os.makedirs(f"{room}/root/etc")
+    os.makedirs(f"{room}/root/dev")
+    for name in ("etc/passwd", "etc/shadow", "init"):
+        put(f"{room}/root/{name}", b"", 0o644)
+    for name in ("", "/etc", "/dev"):
+        os.chmod(f"{room}/root{name}", 0o755)
+    with open(f"{room}/makedevs", "w", encoding="ascii") as file:
+        file.write("# <name>\t<type> <mode> <uid> <gid> <major> <minor> <start> <inc> <count>\n\n")
+        file.write("/dev/hda\tb\t640\t0\t6\t3\t1\t1\t1\t3\n/dev/tty\tc 666 0 0 5 0 0 0 -\n/dev/log p 600 1 1 - - - - -\n")
+        file.write("/etc r -1 7 8 - - - - -\n/etc/shadow f 600 root root - - - - -\n/missing F 600 0 0 - - - - -\n")
+        file.write("/var/www/data d 750 33 33\n/dev d 711 0 0 - - - - -\n  /init f 755 0 0\n")
+    wanted = "dir / 0755 9 9\ndir /dev 0711 0 0\nnod /dev/hda1 0640 0 6 b 3 1\nnod /dev/hda2 0640 0 6 b 3 2\n"
+    wanted += "nod /dev/hda3 0640 0 6 b 3 3\npipe /dev/log 0600 1 1\nnod /dev/tty 0666 0 0 c 5 0\ndir /etc 0755 7 8\n"
+    wanted += "file /etc/passwd 0644 7 8 4 root/etc/passwd\nfile /etc/shadow 0600 0 0 4 root/etc/shadow\n"
+    wanted += "file /init 0755 0 0 4 root/init\ndir /var 0755 0 0\ndir /var/www 0755 0 0\ndir /var/www/data 0750 33 33\n"
+    words = ["scan", "--all", "--owner", "9:9", "--device-table"]
+    tester.is_same("a table", tester.run([*words, "makedevs", "root"]), (wanted, "", 0))
+    for line, number, name in [
+        ("/x q 644 0 0", 1, "BadWord"), ("/x", 1, "BadWord"), ("/x c", 1, "BadWord"), ("/x p 600 0 0 1 1 1 1 1 1", 1, "BadWord"),
+        ("|xattr cap_net_raw+ep", 1, "BadWord"), ("/x c 8 0 0 1 1", 2, "BadNumber"), ("/x c 10000 0 0 1 1", 2, "BadNumber"),
+        ("/x c 600 www 0 1 1", 2, "BadNumber"), ("/x c 600 0 -1 1 1", 2, "BadNumber"), ("/x c 600 0 0 1 1 0 1 65537", 2, "BadNumber"),
+        ("x c 600 0 0 1 1", 3, "BadPath"), ("/none/x c 600 0 0 1 1", 4, "NoParent"), ("/init d 755 0 0", 5, "Exists"),
+        ("/none f 600 0 0", 7, "BadTarget"), ("/none r 600 0 0", 7, "BadTarget"), ("/etc f 600 0 0", 7, "BadTarget"),
+        ("/x c -1 0 0 1 1", 2, "BadNumber"), ("/x c 600 0 0 1048576 1", 2, "BadNumber"), ("/x c 600 0 0 1 1 1048576", 2, "BadNumber"),
+    ]:  # fmt: skip
+        with open(f"{room}/bad", "w", encoding="ascii") as file:
+            file.write(f"# a comment\n{line}\n")
+        tester.is_same(f"a table: {line}", tester.run([*words, "bad", "root"]), ("", f"manifest 2 {number} {name}\n", 1))
+    tester.is_same("no table", tester.run([*words, "none", "root"]), ("", "file none\n", 3))
+    rows_in_order(tester)
+
+
+def rows_in_order(tester):
+    """Each row of a table acts on what was found and on what the rows before it made, except on symbolic links."""
+    room = tester.room
+    os.makedirs(f"{room}/rows/srv")
+    put(f"{room}/rows/srv/a", b"", 0o644)
+    os.symlink("a", f"{room}/rows/srv/link")
+    for name in ("", "/srv"):
+        os.chmod(f"{room}/rows{name}", 0o755)
+    with open(f"{room}/rows-table", "w", encoding="ascii") as file:
+        file.write("/srv/new/ d 755 1 1\n/srv/one c 600 1 1 5 6 7 1 1\n/srv/ r -1 3 4\n/srv/late p 600 5 5\n/srv/link F 600 9 9\n")
+    with open(f"{room}/list", "w", encoding="ascii") as file:
+        file.write("dir /srv 0700 1 1\nmode /srv 0711 2 2\nmode /srv/one 0640 6 6\n")
+    wanted = "dir / 0755 0 0\ndir /srv 0711 2 2\nfile /srv/a 0644 3 4 4 rows/srv/a\npipe /srv/late 0600 5 5\nslink /srv/link 0777 0 0 a\n"
+    wanted += "dir /srv/new 0755 3 4\nnod /srv/one 0640 6 6 c 5 6\n"
+    words = ["scan", "--all", "--all-root", "--device-table", "rows-table", "--devices", "list", "rows"]
+    tester.is_same("rows in order", tester.run(words), (wanted, "", 0))
+
+
+def while_written(tester, words, name, change):
+    """What `pack` reports if a file changes after it was read, while the image is written into a pipe."""
+    room = tester.room
+    os.mkfifo(f"{room}/pipe")
+    called = [tester.program, "pack", "--quiet", *words, "cramfs", "equal", "pipe"]
+    done = subprocess.Popen(called, cwd=room, stdout=subprocess.PIPE, stderr=subprocess.PIPE)
+    with open(f"{room}/pipe", "rb") as pipe:
+        pipe.read(1)
+        with open(f"{room}/{name}", "ab") as file:
+            file.write(change)
+        pipe.read()
+    answer = (*done.communicate(timeout=SECONDS), done.returncode)
+    os.remove(f"{room}/pipe")
+    tester.is_same(f"pack while {name} changes", answer, (b"", b"changed\n", 3))
+
+
+def read_by_pack(tester):
+    """Files that decide what an image has, and are no sources of it: they may neither change nor be written, and are in the rule."""
+    room = tester.room
+    words = ["--dedupe", "--all-root", "--device-table", "equal-table", "--devices", "equal-list"]
+    for name in ("equal-table", "equal-list"):
+        put(f"{room}/{name}", b"# nothing\n")
+    for name in ("equal-table", "equal-list", "equal/b"):
+        told = f"file {name}\n"
+        tester.is_same(f"pack into {name}", tester.run(["pack", "--quiet", *words, "cramfs", "equal", name]), ("", told, 3))
+    told = "file equal/h\n"
+    scan = ["scan", "--all", "--for", "cramfs", *words, "--exclude", "none", "-o"]
+    tester.is_same("scan into equal/h", tester.run([*scan, "equal/h", "equal"]), ("", told, 3))
+    os.link(f"{room}/equal/h", f"{room}/other")
+    tester.is_same("scan into a name of equal/h", tester.run([*scan, "other", "equal"]), ("", "file other\n", 3))
+    ran = tester.run(["pack", "--quiet", *words, "--depfile", "rule", "cramfs", "equal", "rows", "image"])
+    tester.is_same("pack with a rule", ran[1:], ("", 0))
+    with open(f"{room}/rule", encoding="ascii") as file:
+        named = sorted(file.read().split("\n\n")[0].replace("\\\n", "").split()[1:])
+    files = [f"equal/{name}" for name in "abcdefgh"] + ["equal", "equal-list", "equal-table", "rows", "rows/srv", "rows/srv/a"]
+    tester.is_same("names in a rule", named, sorted(files))
+    for name, change in [("equal/h", b"x"), ("equal-table", b"#"), ("equal-list", b"#")]:
+        while_written(tester, words, name, change)
+
+
+def equal_files(tester):
+    """Files with equal bytes and attributes share contents in cramfs, and no others."""
+    room = tester.room
+    os.makedirs(f"{room}/equal")
+    large, other = b"ab" * 40000, b"ab" * 39999 + b"ac"
+    for name, data, mode in [
+        ("a", large, 0o644), ("b", large, 0o644), ("c", other, 0o644), ("d", large, 0o600), ("e", b"", 0o644), ("f", b"", 0o644),
+        ("h", other, 0o644),
+    ]:  # fmt: skip
+        put(f"{room}/equal/{name}", data, mode)
+    os.link(f"{room}/equal/b", f"{room}/equal/g")
+    os.chmod(f"{room}/equal", 0o755)
+    words = ["scan", "--all", "--all-root", "--dedupe"]
+    lines = ["dir / 0755 0 0", "file /a 0644 0 0 8 equal/a", "same /b 0644 0 0 /a", "file /c 0644 0 0 4 equal/c"]
+    lines += ["file /d 0600 0 0 4 equal/d", "file /e 0644 0 0 4 equal/e", "file /f 0644 0 0 4 equal/f", "same /g 0644 0 0 /a"]
+    wanted = "\n".join([*lines, "same /h 0644 0 0 /c", ""])
+    tester.is_same("equal files", tester.run([*words, "--for", "cramfs", "--align", "b=8", "equal"]), (wanted, "", 0))
+    for more in (["--for", "romfs"], []):
+        tester.is_same(f"equal files {more}", tester.run([*words, *more, "equal"]), ("", "usage\n", 2))
+    shared = tester.run(["pack", "--quiet", "--strict", "--dedupe", "--all-root", "cramfs", "equal", "shared"])
+    plain = tester.run(["pack", "--quiet", "--strict", "--all-root", "cramfs", "equal", "plain"])
+    tester.is_same("equal files: packed", (shared[1:], plain[1:]), (("", 0), ("", 0)))
+    saved = os.path.getsize(f"{room}/plain") - os.path.getsize(f"{room}/shared")
+    tester.is_same("equal files: bytes", saved > 155000, True)
+
+
 def strict(tester):
     """What --for changes is counted, and refused by --strict."""
     top = f"{tester.room}/strict"
@@ -433,6 +578,10 @@ def main():
         outputs(tester)
         patterns(tester)
         devices(tester)
+        attributes(tester)
+        device_tables(tester)
+        equal_files(tester)
+        read_by_pack(tester)
         strict(tester)
         names(tester)
         killed(tester)
