@@ -1,5 +1,5 @@
 -- Facts on one component of a path.
-use Rattle.std.proofs.Common.{◌≡◌, ℕ, suc, ◌<◌, ◌≤◌, Bool, true, false, List, [], ◌∷◌, ◌++◌, length, Option, Some, None}
+use Rattle.std.proofs.Common.{◌≡◌, ℕ, suc, ◌*◌, ◌<◌, ◌≤◌, Bool, true, false, List, [], ◌∷◌, ◌++◌, length, Option, Some, None}
 use Rattle.std.proofs.Common.{refl, sym, ap, ◌∙◌, subst, rules, arith, length-append, append-nil, tests, ◌==◌, nat_lt}
 use Rattle.std.proofs.lemmas.Bool.{false≢true, eqb-true}
 use Rattle.std.specs.Prelude.{IsSome, unwrap_or, option_to_list, not, ◌&&◌, if◌then◌else◌, find, option_map}
@@ -154,23 +154,22 @@ same_cover ms us p s i = ap (λ (v : ℕ). find (covers v (ino_of s.node)) us) (
 
 -- room below what is at a node
 over_fits : (ms : List Image) (us : List Mount) (s t : MountedNode) (p : Location) (n : ℕ) (o : Option Mount)
-    → are_mounts ms us ≡ true → length ms ≤ 8 → 0 < length ms → AreShallow ms
+    → are_mounts ms us ≡ true → AreShallow ms
     → IsFitting us s n → t.image ≡ s.image → suc (levels t.node) ≤ levels s.node → NamesAt ms p t
     → find (covers t.image (ino_of t.node)) us ≡ o → IsFitting us (over ms t o) (suc n)
-over_fits ms us s t p n None h w z sh f i l sp e =
+over_fits ms us s t p n None h sh f i l sp e =
     let r = f.room in
     let P : ℕ → Type 0 = λ v. IsLed us f.deep v in
-    record { deep = f.deep; led = subst P (sym i) f.led; few = f.few; room = omega (arith, r, l) }
-over_fits ms us s t p n (Some u) h w z sh f i l sp e =
+    record { deep = f.deep; led = subst P (sym i) f.led; room = omega (arith, r, l) }
+over_fits ms us s t p n (Some u) h sh f i l sp e =
     let r = f.room in
     let c : IsCovered ms us t u =
     covered ms us t.image p.node.0 t u h (ap (λ (v : ℕ). node_in ms v p.node.0) (sym sp.image) ∙ sp.node) e in
     let P : ℕ → Type 0 = λ v. IsLed us f.deep v in
     let led : IsLed us (suc f.deep) u.image = onto u c.member (subst P (sym (c.on ∙ i)) f.led) in
-    let few = led_few ms us h (suc f.deep) u.image z led in
     let d = levels_directory t.node c.directory in
     let k = sh u.image in
-    record { deep = suc f.deep; led = led; few = omega (arith, few, w); room = omega (arith, r, l, d, k) }
+    record { deep = suc f.deep; led = led; room = omega (arith, r, l, d, k) }
 
 -- the entry of a name
 pub entry_some : (ms : List Image) (us : List Mount) (s : MountedNode) (x : Node) (name : List ℕ)
@@ -195,33 +194,34 @@ entry_named ms p s x n name i f e = record {
 module _ (ms : List Image) (us : List Mount) where
   -- there is room for one more ancestor above an entry
   pub trail_room : (current : Location) (ancestors : List Location) (s : Trail MountedNode) (x : Node) (name : List ℕ)
+      (places : ℕ) → are_mounts ms us ≡ true → 64 * length ms < places
       → IsTrail ms us current ancestors s → find_entry (entries_of s.current.node) name ≡ Some x
-      → length ancestors < 513
-  trail_room current ancestors s x name i e =
+      → length ancestors < places
+  trail_room current ancestors s x name places h w i e =
       let f = fit_current us s.current s.ancestors i.fit in
+      let z = node_below ms current.image current.node.0 s.current.node i.named.node in
+      let few = led_few ms us h f.deep s.current.image (omega (arith, z)) f.led in
       let l = named_levels s.current.node x name e in
       let r = f.room in
-      let w = f.few in
       let k = ancestors_length ms ancestors s.ancestors i.all_named in
-      omega (arith, l, r, w, k)
+      omega (arith, l, r, few, w, k)
 
   enter_fits : (s : MountedNode) (ss : List MountedNode) (t : MountedNode) → AreFitting us s ss
       → IsFitting us t (suc (length ss)) → AreFitting us t (s ∷ ss)
   enter_fits s ss t h f = (f, h)
 
   pub enter_trail : (current q : Location) (ancestors ancestors' : List Location) (s : Trail MountedNode) (x : Node)
-      (p : Location) (name : List ℕ) → are_mounts ms us ≡ true → length ms ≤ 8 → AreShallow ms
+      (p : Location) (name : List ℕ) → are_mounts ms us ≡ true → AreShallow ms
       → IsTrail ms us current ancestors s → find_entry (entries_of s.current.node) name ≡ Some x
       → NamesAt ms p (record { image = s.current.image; node = x })
       → NamesAt ms q (shown ms us (record { image = s.current.image; node = x }))
       → ancestors' ≡ ancestors ++ current ∷ []
       → IsTrail ms us q ancestors' (enter s (shown ms us (record { image = s.current.image; node = x })))
   unfolding shown
-  enter_trail current q ancestors ancestors' s x p name h w sh i e sp sq k =
+  enter_trail current q ancestors ancestors' s x p name h sh i e sp sq k =
       let t : MountedNode = record { image = s.current.image; node = x } in
-      let z = node_below ms current.image current.node.0 s.current.node i.named.node in
-      let f = over_fits ms us s.current t p (length s.ancestors) (find (covers t.image (ino_of t.node)) us) h w
-      (omega (arith, z)) sh (fit_current us s.current s.ancestors i.fit) refl
+      let f = over_fits ms us s.current t p (length s.ancestors) (find (covers t.image (ino_of t.node)) us) h
+      sh (fit_current us s.current s.ancestors i.fit) refl
       (named_levels s.current.node x name e) sp refl in
       record {
         named = sq;
@@ -268,7 +268,7 @@ module _ (ms : List Image) (us : List Mount) where
   root_fits : (s : MountedNode) → AreShallow ms → s ≡ (graft ms us).root → IsFitting us s 0
   root_fits s sh e = let P : MountedNode → Type 0 =
       λ v. IsFitting us v 0 in subst P (sym e)
-      (record { deep = 0; led = origin; few = omega arith; room = (let k = sh 0 in omega (arith, k)) })
+      (record { deep = 0; led = origin; room = (let k = sh 0 in omega (arith, k)) })
 
   pub root_trail : (root current : Location) (ancestors fs : List Location) (s : Trail MountedNode)
       → IsTrail ms us current ancestors s → AreShallow ms → NamesAt ms root (graft ms us).root → fs ≡ []

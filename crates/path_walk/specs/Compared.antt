@@ -8,7 +8,7 @@
 -- component that is refused before it is looked up, are compared with no name. The components of
 -- a link that is followed are looked up as those of the path.
 use Rattle.std.specs.Prelude.{◌≡◌, ℕ, zero, suc, ◌+◌, ◌<◌, nat_lt, Bool, ◌&&◌, not, List, [], ◌∷◌}
-use Rattle.std.specs.Prelude.{◌++◌, length, Result, Ok, Err, if◌then◌else◌}
+use Rattle.std.specs.Prelude.{◌++◌, length, Result, Err, if◌then◌else◌}
 use Rattle.std.specs.Str.{bytes_eq}
 use Rattle.rom_tree.specs.Dots.{dot, dot_dot}
 use Rattle.rom_tree.specs.Tree.{Node, Entries, no_entries, entry, is_directory, entries_of}

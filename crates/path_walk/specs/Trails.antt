@@ -36,12 +36,11 @@ pub data IsLed (us : List Mount) : ℕ → ℕ → Type 0 where
   origin : IsLed us 0 0
   onto : {r : ℕ} (u : Mount) → IsMember u us → IsLed us r u.on → IsLed us (suc r) u.image
 
--- If n places are the ancestors of a node, the stack of 513 has room for those of all directories
--- below it: each image on the way adds at most 64, and the first 65.
+-- If n places are the ancestors of a node, there are at most so many of each directory below it:
+-- each image on the way adds 64, and the first 65.
 pub record IsFitting (us : List Mount) (s : MountedNode) (n : ℕ) : Type 0 where
   pub deep : ℕ
   pub led : IsLed us deep s.image
-  pub few : deep ≤ 7
   pub room : levels s.node + n ≤ 65 + 64 * deep
 
 abbrev pub AreFitting : List Mount → MountedNode → List MountedNode → Type 0

@@ -1,5 +1,5 @@
 //! The walk along a path.
-ghost use Rattle.std.specs.Prelude.{Bool, ◌≡◌, ◌<◌, ◌≤◌, true, MatchResult, IfOk, Ok, Err, length};
+ghost use Rattle.std.specs.Prelude.{Bool, ◌≡◌, ◌<◌, ◌≤◌, ◌*◌, true, MatchResult, IfOk, Ok, Err, length};
 ghost use Rattle.std.specs.Prelude.{Some, map};
 ghost use Rattle.rom_tree.specs.Tree.{Node, IsShallow};
 ghost use Rattle.rom_tree.specs.Image.{image_node};
@@ -22,6 +22,12 @@ use rom_tree::{NodeId, TreeImage};
 const PATH_MAX: usize = 4095;
 
 pub(crate) const LINKS_MAX: u32 = 40;
+
+/// How many ancestors there is room for in one image: more than directories may be deep.
+pub(crate) const PLACES: usize = 65;
+
+/// The same in eight images.
+const MOUNTED_PLACES: usize = 513;
 
 /// Refuses a path as a whole: if it is too long, is empty, or does not begin with a slash.
 pub(crate) fn check_path(path: &[u8]) -> Result<(), WalkError>
@@ -48,7 +54,7 @@ pub(crate) fn check_path(path: &[u8]) -> Result<(), WalkError>
 
 /// The place to which a path leads. The components that are still to come are those of `unread`:
 /// the rests of the path and of the texts of the links on the way, the last one first.
-fn find_place<'a, G: Images<'a>>(
+fn find_place<'a, G: Images<'a>, const N: usize>(
     images: &mut G,
     mounts: &[Mount],
     path: &[u8],
@@ -56,7 +62,8 @@ fn find_place<'a, G: Images<'a>>(
 ) -> Result<Location, WalkError>
     requires mounts { are_mounts (G.held images.old).images mounts.now ≡ true }
     requires some { 0 < length (G.held images.old).images }
-    requires few { length (G.held images.old).images ≤ 8 }
+    requires places { 64 * length (G.held images.old).images < N }
+    requires few { N ≤ 513 }
     requires shallow { AreShallow (G.held images.old).images }
     ensures leads { IsFound (G.held images.old).images mounts.now path.now follow_last result }
     ensures stays { G.held images.new ≡ G.held images.old }
@@ -67,7 +74,7 @@ fn find_place<'a, G: Images<'a>>(
         node: images.root_in(0),
     };
     let mut current = root;
-    let mut ancestors: ArrayVec<Location, 513> = ArrayVec::new();
+    let mut ancestors: ArrayVec<Location, N> = ArrayVec::new();
     let mut unread: ArrayVec<&[u8], 41> = ArrayVec::new();
     let mut links = LINKS_MAX;
     unread.push(path);
@@ -128,7 +135,8 @@ pub fn walk<'a, T: TreeImage<'a>>(
         path.now follow_last ≡ Err e) }
     ensures stays { T.image image.new ≡ T.image image.old }
 {
-    let place = find_place(&mut One { image }, &[], path, follow_last)?;
+    let mut one = One { image };
+    let place = find_place::<One<'_, T>, PLACES>(&mut one, &[], path, follow_last)?;
     Ok(place.node)
 }
 
@@ -165,6 +173,7 @@ pub fn walk_mounts<'a, T: TreeImage<'a>>(
     ensures uncovered { IfOk result (λ p. IsUncovered mounts.now p.0 p.1.0) }
     ensures stays { map T.image images.new ≡ map T.image images.old }
 {
-    let place = find_place(&mut Several { images }, mounts, path, follow_last)?;
+    let mut all = Several { images };
+    let place = find_place::<Several<'_, T>, MOUNTED_PLACES>(&mut all, mounts, path, follow_last)?;
     Ok((place.image, place.node))
 }

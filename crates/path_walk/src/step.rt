@@ -1,5 +1,5 @@
 //! The step of a walk along one component of a path.
-ghost use Rattle.std.specs.Prelude.{◌≡◌, ◌∷◌, [], ◌≤◌, true, List, length, ◌&&◌, not};
+ghost use Rattle.std.specs.Prelude.{◌≡◌, ◌∷◌, [], ◌<◌, ◌≤◌, ◌*◌, true, List, length, ◌&&◌, not};
 ghost use Rattle.std.specs.Prelude.{if◌then◌else◌, find};
 ghost use Rattle.std.specs.Str.{bytes_eq};
 ghost use Rattle.rom_tree.specs.Image.{Image};
@@ -62,17 +62,19 @@ fn shown_place<'a, G: Images<'a>>(
 }
 
 /// Goes to the place to which one component leads, or returns a link that is to be followed.
-/// `stays` is whether this is the last component and a link there is not followed.
-pub(crate) fn advance<'a, G: Images<'a>>(
+/// `stays` is whether this is the last component and a link there is not followed. There is room
+/// for `N` ancestors, and each image adds at most 64.
+pub(crate) fn advance<'a, G: Images<'a>, const N: usize>(
     images: &mut G,
     mounts: &[Mount],
     current: &mut Location,
-    ancestors: &mut ArrayVec<Location, 513>,
+    ancestors: &mut ArrayVec<Location, N>,
     component: &[u8],
     stays: bool,
 ) -> Result<Option<Location>, WalkError>
     requires mounts { are_mounts (G.held images.old).images mounts.now ≡ true }
-    requires few { length (G.held images.old).images ≤ 8 }
+    requires places { 64 * length (G.held images.old).images < N }
+    requires few { N ≤ 513 }
     requires shallow { AreShallow (G.held images.old).images }
     requires trail { (s : Trail MountedNode)
         × IsTrail (G.held images.old).images mounts.now current.old ancestors.old.items s }
@@ -116,10 +118,10 @@ pub(crate) fn last_stays(follow_last: bool, is_last: bool) -> bool
 }
 
 /// Goes to the root if a text begins with a slash.
-pub(crate) fn start_from(
+pub(crate) fn start_from<const N: usize>(
     root: Location,
     current: &mut Location,
-    ancestors: &mut ArrayVec<Location, 513>,
+    ancestors: &mut ArrayVec<Location, N>,
     text: &[u8],
 )
     ensures { (ms : List Image) (us : List Mount) (s : Trail MountedNode)

@@ -1,5 +1,5 @@
 //! The walk along a path that compares no more names than a budget.
-ghost use Rattle.std.specs.Prelude.{Bool, ◌≡◌, ◌<◌, ◌≤◌, true, MatchResult, Ok, length, Some};
+ghost use Rattle.std.specs.Prelude.{Bool, ◌≡◌, ◌<◌, ◌≤◌, ◌*◌, true, MatchResult, Ok, length, Some};
 ghost use Rattle.rom_tree.specs.Tree.{Node, IsShallow};
 ghost use Rattle.rom_tree.specs.Image.{image_node};
 ghost use Rattle.path_walk.specs.Resolution.{resolution, tree_namespace};
@@ -11,14 +11,14 @@ use crate::component::take_component;
 use crate::error::{WalkError, WithinError};
 use crate::images::{Images, One};
 use crate::mount::{Location, Mount};
-use crate::paths::{LINKS_MAX, check_path};
+use crate::paths::{LINKS_MAX, PLACES, check_path};
 use crate::step::{advance, last_stays, start_from};
 use arrayvec::ArrayVec;
 use rom_tree::{NodeId, TreeImage};
 
 /// The place to which a path leads, as `find_place` finds it. Before each look-up its names are
 /// taken from the budget.
-fn find_place_within<'a, G: Images<'a>>(
+fn find_place_within<'a, G: Images<'a>, const N: usize>(
     images: &mut G,
     mounts: &[Mount],
     path: &[u8],
@@ -27,7 +27,8 @@ fn find_place_within<'a, G: Images<'a>>(
 ) -> Result<Location, WithinError>
     requires mounts { are_mounts (G.held images.old).images mounts.now ≡ true }
     requires some { 0 < length (G.held images.old).images }
-    requires few { length (G.held images.old).images ≤ 8 }
+    requires places { 64 * length (G.held images.old).images < N }
+    requires few { N ≤ 513 }
     requires shallow { AreShallow (G.held images.old).images }
     ensures leads { MatchResult result
         (λ p. (s : MountedNode)
@@ -48,7 +49,7 @@ fn find_place_within<'a, G: Images<'a>>(
         node: images.root_in(0),
     };
     let mut current = root;
-    let mut ancestors: ArrayVec<Location, 513> = ArrayVec::new();
+    let mut ancestors: ArrayVec<Location, N> = ArrayVec::new();
     let mut unread: ArrayVec<&[u8], 41> = ArrayVec::new();
     let mut links = LINKS_MAX;
     unread.push(path);
@@ -114,6 +115,7 @@ pub fn walk_within<'a, T: TreeImage<'a>>(
         path.now follow_last)) }
     ensures stays { T.image image.new ≡ T.image image.old }
 {
-    let place = find_place_within(&mut One { image }, &[], path, follow_last, budget)?;
+    let mut one = One { image };
+    let place = find_place_within::<One<'_, T>, PLACES>(&mut one, &[], path, follow_last, budget)?;
     Ok(place.node)
 }

@@ -1,4 +1,4 @@
-use Rattle.std.proofs.Common.{◌≡◌, ◌+◌, ℕ, refl, ap, arith}
+use Rattle.std.proofs.Common.{◌≡◌, ◌+◌, refl, ap, arith}
 use Rattle.rom_tree.specs.Tree.{Node, entries_of}
 use Rattle.rom_tree.specs.Image.{Image, IsEntry}
 use Rattle.rom_tree.proofs.Named.{directory_by, same_node, some_is}

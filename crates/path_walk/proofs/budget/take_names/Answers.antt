@@ -1,4 +1,4 @@
-use Rattle.std.proofs.Common.{◌≡◌, ◌+◌, ◌<◌, ℕ, refl, sym, ◌∙◌, true, false, subst, arith}
+use Rattle.std.proofs.Common.{◌≡◌, ℕ, refl, sym, ◌∙◌, true, subst, arith}
 use Rattle.rom_tree.specs.Image.{Image}
 use Rattle.rom_tree.proofs.Named.{node_by, has_directory}
 use Rattle.path_walk.specs.Compared.{is_looked_up, AreTaken, AreTooMany}

@@ -1,4 +1,4 @@
-use Rattle.std.proofs.Common.{◌≡◌, ℕ, List, length, ap, sym, ◌∙◌, subst, arith, false, true, Bool, refl, lit<, nat_lt}
+use Rattle.std.proofs.Common.{◌≡◌, ℕ, List, length, ap, sym, ◌∙◌, subst, arith, false, true, Bool, refl, nat_lt}
 use Rattle.std.specs.Prelude.{unwrap_or}
 use Rattle.std.specs.Str.{bytes_eq}
 use Rattle.rom_tree.specs.Dots.{dot, dot_dot}
@@ -168,8 +168,11 @@ push-requires g c =
     let us : List Mount = c.args.mounts.now in
     let s : Trail MountedNode = c.requires.trail.0 in
     let i : IsTrail ms us c.args.current.now c.args.ancestors.now.items s = c.requires.trail.1 in
-    let f = c.in-Some.ensures.found s.current i.named in
-    (lit< tt, trail_room ms us c.args.current.now c.args.ancestors.now.items s f.0 c.args.component.now i f.1)
+    let f = c.in-Some.ensures.found s.current i.named in (
+      omega (arith, c.requires.few),
+      trail_room ms us c.args.current.now c.args.ancestors.now.items s f.0 c.args.component.now g.row.N c.requires.mounts
+          c.requires.places i f.1,
+    )
 
 pub returns-clause-leads : goal.returns-clause-leads
 returns-clause-leads g c = λ s i.
@@ -202,7 +205,7 @@ returns-clause-leads g c = λ s i.
     ∙ ap (λ (v : Held). is_link (shown v.images us t).node) hs in
     let b : IsTrail ms us c.shown_place-found.result c.push.new.self.items (enter s y) =
     enter_trail ms us c.args.current.now c.shown_place-found.result c.args.ancestors.now.items c.push.new.self.items
-    s x pl pt c.requires.mounts c.requires.few c.requires.shallow i f.1 ip iq c.push.ensures.items in
+    s x pl pt c.requires.mounts c.requires.shallow i f.1 ip iq c.push.ensures.items in
     elim c.else-is_link_in.branch [
       | else-is_link_in-via-then-is_link_in+else-not-stays w ↦ (
         enter s y,

@@ -1,4 +1,4 @@
-use Rattle.std.proofs.Common.{◌≡◌, ℕ, ◌+◌, ◌≤◌, ◌∷◌, [], ◌++◌, List, length, ap, sym, ◌∙◌, subst, arith, true}
+use Rattle.std.proofs.Common.{◌≡◌, ℕ, ◌+◌, ◌∷◌, [], ◌++◌, List, length, ap, sym, ◌∙◌, subst, arith, true, ◌*◌, ◌<◌}
 use Rattle.std.proofs.Common.{Bool, ◌==◌, refl, Result, Ok, Err, length-append}
 use Rattle.std.specs.Prelude.{not, ◌&&◌, if◌then◌else◌}
 use Rattle.std.specs.Borrow.{Bor}
@@ -16,7 +16,7 @@ use Rattle.path_walk.proofs.Turns.{first_components, turn_fails, turn_goes, turn
 use Rattle.path_walk.proofs.Answered.{handed_on}
 use Rattle.path_walk.proofs.Led.{led, led_on, led_link, link_read, named_there}
 use Rattle.path_walk.specs.declared.error.WithinError.TheVariants.{Path}
-use Rattle.path_walk.specs.Compared.{compared_at, compared_by, names_compared, IsRefusedBy, AreTaken, Leaves}
+use Rattle.path_walk.specs.Compared.{compared_by, names_compared, IsRefusedBy, AreTaken, Leaves}
 use Rattle.path_walk.proofs.Counted.{turn_begins, names_fail, names_go_on, names_loop, names_follow, names_end}
 use Rattle.path_walk.proofs.within.find_place_within.Goals as goal
 
@@ -66,11 +66,11 @@ pub advance-requires : goal.advance-requires
 advance-requires g c κs =
     let i = c.loop-component.invariant in
     let us : List Mount = c.args.mounts.now in
-    let are : Held → Type 0 = λ (v : Held). (are_mounts v.images us ≡ true) × (length v.images ≤ 8)
+    let are : Held → Type 0 = λ (v : Held). (are_mounts v.images us ≡ true) × (64 * length v.images < g.row.N)
     × AreShallow v.images × IsTrail v.images us c.loop-component.current c.loop-component.ancestors.items i.trail in
     let a : are (g.G.Gathered.held c.loop-component.images) =
-    subst are (sym i.held) (c.requires.mounts, c.requires.few, c.requires.shallow, i.is) in
-    ((refl, tt), (a.0, (a.1, (a.2, (i.trail, a.3)))))
+    subst are (sym i.held) (c.requires.mounts, c.requires.places, c.requires.shallow, i.is) in
+    (omega (arith, c.requires.few), ((refl, tt), (a.0, (a.1, (c.requires.few, (a.2, (i.trail, a.3)))))))
 
 pub returns-in_err-link-clause-leads : goal.returns-in_err-link-clause-leads
 returns-in_err-link-clause-leads g c =

@@ -12,7 +12,7 @@ use Rattle.path_walk.proofs.within.walk_within.Goals as goal
 pub find_place_within-requires : goal.find_place_within-requires
 find_place_within-requires g c κs =
     let m : Image = g.T.Viewed.image c.args.image.now in
-    ((refl, tt), (no_mounts (m ∷ []), (omega arith, (omega arith, one_shallow m c.requires))))
+    ((refl, tt), (no_mounts (m ∷ []), (omega arith, (omega arith, (omega arith, one_shallow m c.requires)))))
 
 pub returns-clause-leads : goal.returns-clause-leads
 returns-clause-leads g c =
