@@ -4,9 +4,10 @@ use Rattle.std.proofs.Common.{Option, Some, map, refl, sym, ap, subst, ◌∙◌
 use Rattle.std.specs.Prelude.{Result, Ok, Err, OnOk}
 use Rattle.std.specs.Io.KnownBytes.{Appends}
 use Rattle.rom_fields.specs.Written.{WritesText}
-use Rattle.rom_tree.specs.Image.{Image, image_node}
+use Rattle.rom_tree.specs.declared.types.Stat.{Stat}
+use Rattle.rom_tree.specs.Image.{Image, image_node, stat_of}
 use Rattle.rom_tree.specs.Names.{Name, names, node_names}
-use Rattle.rom_tree.specs.Tree.{IsIn, here, there, nodes, kind_of}
+use Rattle.rom_tree.specs.Tree.{IsIn, Node, here, there, nodes, kind_of}
 use Rattle.rom_tree.proofs.Nodes.{node_at-in}
 use Rattle.image_manifest.specs.Composed.{path_by, way_at, ways_of}
 use Rattle.image_manifest.specs.Composed.{path_at as manifest_path}
@@ -92,6 +93,14 @@ known g m ms (suc k) d are h some =
       kind = ap (λ (v : Made). v.kind) at_is ∙ ap (λ (v : Known). made_of (kind_of n.node) v.first) (sym is);
       bytes = ap (λ (v : Made). v.bytes) at_is;
     }
+
+-- what is made of a member, by the attributes of its node
+pub kind_made : (g : Giving) (m : Image) (ms : List Member) (i : ℕ) (d : Member) (s : Stat) → AreMembers m ms
+    → i < length ms → i ≢ 0 → ((x : Node) → image_node m (get_or ms i d).node.0 ≡ Some x → s ≡ stat_of x)
+    → made_of s.kind (get_or ms i d).first ≡ kind_at (members_in g m) i
+kind_made g m ms i d s are h some stat =
+    let it = known g m ms i d are h some in
+    ap (λ (v : Stat). made_of v.kind (get_or ms i d).first) (stat it.node it.at) ∙ sym it.kind
 
 -- ---- the path and the node of any member
 

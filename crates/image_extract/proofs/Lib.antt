@@ -1,3 +1,5 @@
+mod Made
+mod Wanted
 mod Indexed
 mod Known
 mod Apart

@@ -1,3 +1,4 @@
 pub mod Rights
 pub mod Members
+pub mod Chosen
 pub mod Known

@@ -1,5 +1,6 @@
 -- `members_in`: the names of an image as the members of a tree that is extracted, with the rights
--- that they get. `stat_at`: the attributes of the node of a name. (This project's own.)
+-- that they get. `made_in`: the same, of which this is made. `stat_at`: the attributes of the node
+-- of a name. (This project's own.)
 use Rattle.std.specs.Prelude.{ℕ, List, [], ◌∷◌, ◌++◌, get_or, Option, Some, None}
 use Rattle.rom_tree.specs.declared.types.Kind.{Kind as NodeKind}
 use Rattle.rom_tree.specs.declared.types.Kind.TheVariants as node
@@ -13,6 +14,7 @@ use Rattle.image_extract.specs.declared.giving.Giving.{Giving}
 use Rattle.tree_extract.specs.declared.tree.Kind.{Kind}
 use Rattle.tree_extract.specs.declared.tree.Kind.TheVariants.{Directory, File, Further, Symlink}
 use Rattle.tree_extract.specs.declared.tree.Kind.TheVariants.{Nothing}
+use Rattle.tree_extract.specs.Choices.{with_kinds}
 use Rattle.tree_extract.specs.Members.{Member}
 
 -- what is made of a regular file, by the index of an earlier name of it
@@ -59,6 +61,9 @@ members_in g m =
       rights = given_rights g (stat_of m.tree);
     }
     ∷ members_behind g m (root_of m ∷ []) (node_names [] m.tree)
+
+abbrev pub made_in : Giving → Image → List Kind → List Member
+made_in g m ks = with_kinds (members_in g m) ks
 
 -- the node of the name at an index, and its attributes
 abbrev pub node_at : Image → ℕ → Node

@@ -1,4 +1,5 @@
 pub mod Patterns
+pub mod Several
 pub mod Reading
 pub mod Rows
 pub mod Literals

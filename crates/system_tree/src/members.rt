@@ -1,7 +1,7 @@
 //! The members of an image that is extracted, and the path of each in the directory.
 ghost use Rattle.std.specs.Prelude.{◌≡◌, ◌<◌, ◌++◌, codes, length, string_bytes, IfOk};
 ghost use Rattle.image_check.specs.Any.{any_view};
-ghost use Rattle.image_extract.specs.Members.{members_in};
+ghost use Rattle.image_extract.specs.Members.{made_in};
 ghost use Rattle.tree_extract.specs.Members.{path_at};
 
 use crate::making::Syncing;
@@ -53,11 +53,11 @@ impl Members<'_> {
     ///
     /// `AllocError` if memory was refused.
     pub fn named_in(&self, directory: &str, index: usize) -> Result<Vec<u8>, AllocError>
-        requires { index < length (members_in self.now.tree.now.giving
-            (any_view self.now.tree.now.image.now)) }
+        requires { index < length (made_in self.now.tree.now.giving
+            (any_view self.now.tree.now.image.now) self.now.tree.now.kinds.now) }
         ensures { IfOk result (λ v. v.items ≡ directory.now
-            ++ path_at (members_in self.now.tree.now.giving
-            (any_view self.now.tree.now.image.now)) index) }
+            ++ path_at (made_in self.now.tree.now.giving
+            (any_view self.now.tree.now.image.now) self.now.tree.now.kinds.now) index) }
     {
         let mut path: ArrayVec<u8, PATH_MAX> = ArrayVec::new();
         self.tree.path(index, &mut path);
@@ -74,11 +74,11 @@ impl Members<'_> {
     ///
     /// `OutOfMemory`; `InvalidFilename` if the path is no UTF-8.
     pub fn place(&self, index: usize) -> io::Result<String>
-        requires { index < length (members_in self.now.tree.now.giving
-            (any_view self.now.tree.now.image.now)) }
+        requires { index < length (made_in self.now.tree.now.giving
+            (any_view self.now.tree.now.image.now) self.now.tree.now.kinds.now) }
         ensures { IfOk result (λ p. string_bytes p ≡ codes "."
-            ++ path_at (members_in self.now.tree.now.giving
-            (any_view self.now.tree.now.image.now)) index) }
+            ++ path_at (made_in self.now.tree.now.giving
+            (any_view self.now.tree.now.image.now) self.now.tree.now.kinds.now) index) }
     {
         match String::from_utf8(self.named_in(".", index)?) {
             Ok(place) => Ok(place),
@@ -93,8 +93,8 @@ impl Members<'_> {
     ///
     /// `OutOfMemory`; `InvalidFilename` otherwise.
     pub fn try_name(&self, index: usize, before: usize) -> io::Result<()>
-        requires { index < length (members_in self.now.tree.now.giving
-            (any_view self.now.tree.now.image.now)) }
+        requires { index < length (made_in self.now.tree.now.giving
+            (any_view self.now.tree.now.image.now) self.now.tree.now.kinds.now) }
     {
         let place = self.place(index)?;
         let longest = place.split('/').map(str::len).max().unwrap_or(0);

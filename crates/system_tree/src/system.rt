@@ -5,7 +5,7 @@
 ghost use Rattle.std.specs.Prelude.{◌≡◌, ◌<◌, ◌++◌, [], List, codes, length, string_bytes};
 ghost use Rattle.std.specs.Prelude.{IfOk, OnOk};
 ghost use Rattle.image_check.specs.Any.{any_view};
-ghost use Rattle.image_extract.specs.Members.{members_in};
+ghost use Rattle.image_extract.specs.Members.{made_in};
 ghost use Rattle.tree_extract.specs.Accounts.{log_of, room_of};
 ghost use Rattle.tree_extract.specs.Members.{Member, path_at};
 
@@ -50,14 +50,14 @@ impl<'a> System<'a> {
 
     /// Asks for memory to note one more call, and returns the path of the member at an index.
     fn place(&mut self, index: usize) -> io::Result<String>
-        requires { index < length (members_in self.old.members.tree.now.giving
-            (any_view self.old.members.tree.now.image.now)) }
+        requires { index < length (made_in self.old.members.tree.now.giving
+            (any_view self.old.members.tree.now.image.now) self.old.members.tree.now.kinds.now) }
         ensures members { self.new.members ≡ self.old.members }
         ensures same { self.new.account.answered.items ≡ self.old.account.answered.items }
         ensures room { OnOk result (0 < room_of self.new.account) }
         ensures place { IfOk result (λ p. string_bytes p ≡ codes "."
-            ++ path_at (members_in self.old.members.tree.now.giving
-            (any_view self.old.members.tree.now.image.now)) index) }
+            ++ path_at (made_in self.old.members.tree.now.giving
+            (any_view self.old.members.tree.now.image.now) self.old.members.tree.now.kinds.now) index) }
     {
         self.account.reserve()?;
         self.members.place(index)
@@ -72,12 +72,12 @@ impl Directory for System<'_> {
 
     type File = Writer;
 
-    ghost members = { λ s. members_in s.members.tree.now.giving
-        (any_view s.members.tree.now.image.now) };
+    ghost members = { λ s. made_in s.members.tree.now.giving
+        (any_view s.members.tree.now.image.now) s.members.tree.now.kinds.now };
 
     ghost log = { λ s.
-        log_of (members_in s.members.tree.now.giving
-        (any_view s.members.tree.now.image.now)) s.account };
+        log_of (made_in s.members.tree.now.giving
+        (any_view s.members.tree.now.image.now) s.members.tree.now.kinds.now) s.account };
 
     ghost fresh = { None };
 

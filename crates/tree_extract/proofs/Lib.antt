@@ -1,3 +1,5 @@
+pub mod Chosen
+mod Firsts
 mod Noted
 mod Inside
 mod Steps

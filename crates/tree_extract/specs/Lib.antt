@@ -3,6 +3,7 @@ pub mod Members
 pub mod Log
 pub mod Safe
 pub mod Extracted
+pub mod Choices
 pub mod Passes
 pub mod Accounts
 pub mod WrongRuns

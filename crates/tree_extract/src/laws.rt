@@ -1,8 +1,11 @@
-//! What the theorem refuses.
+//! What the theorem refuses, and that some of the members can be extracted.
 ghost use Rattle.std.specs.Prelude.{ℕ, List, Option};
+ghost use Rattle.tree_extract.specs.Choices.{IsChoice, IsFit, with_kinds};
+ghost use Rattle.tree_extract.specs.Members.{Member, AreMembers};
 ghost use Rattle.tree_extract.specs.WrongRuns.{RefusesCall, link_followed, led_outside, made_twice};
 ghost use Rattle.tree_extract.specs.WrongRuns.{RefusesLeftOut, RefusesForeign, RefusesRightsFirst};
 ghost use Rattle.tree_extract.specs.WrongRuns.{RefusesOtherRights};
+ghost use Rattle.tree_extract.specs.declared.tree.Kind.{Kind};
 ghost use Rattle.tree_extract.specs.declared.tree.Owner.{Owner};
 
 /// Shows that the promises refuse wrong runs: a file that is made through a link, or by a path with
@@ -18,4 +21,12 @@ pub fn refused_runs()
     ensures foreign { RefusesForeign }
     ensures rights { RefusesRightsFirst }
     ensures other { RefusesOtherRights }
+{}
+
+/// Shows that if members can be extracted, so can those of them that are chosen.
+pub fn can_be_chosen()
+    ensures fit { (ms : List Member) (ks : List Kind) → AreMembers ms → IsChoice ms ks
+        → IsFit ms ks }
+    ensures can { (ms : List Member) (ks : List Kind) → AreMembers ms → IsFit ms ks
+        → AreMembers (with_kinds ms ks) }
 {}

@@ -6,15 +6,20 @@
 //! before (`specs/Safe.antt`). So nothing outside the directory is changed. Nothing is made that is
 //! no member of the tree. At `Ok` each member was made whole, and rights of directories were set
 //! after all was made (`specs/Extracted.antt`).
+//!
+//! `choose` returns what is made if only some members are chosen (`specs/Choices.antt`). If the
+//! members of a tree can be extracted, so can these (`laws::can_be_chosen`).
 #![tactic(auto)]
 
 mod account;
+mod choosing;
 mod directory;
 mod extracting;
 pub mod laws;
 mod tree;
 
 pub use account::{Account, Answered, Asked};
+pub use choosing::choose;
 pub use directory::Directory;
 pub use extracting::{Stopped, extract};
 pub use tree::{Kind, Owner, Rights, Tree};

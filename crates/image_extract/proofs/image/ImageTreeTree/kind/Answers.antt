@@ -1,21 +1,18 @@
-use Rattle.std.proofs.Common.{ap, sym, ◌∙◌, refl}
-use Rattle.tree_extract.specs.Members.{kind_at}
-use Rattle.image_extract.specs.Members.{members_in}
-use Rattle.image_extract.proofs.Known.{is_within, root_nothing}
+use Rattle.std.proofs.Common.{refl, sym, ◌∙◌}
+use Rattle.image_extract.proofs.Made.{in_kinds, kind_is_made}
 use Rattle.image_extract.proofs.image.ImageTreeTree.kind.Goals as goal
 
-pub returns-then-index-eq0 : goal.returns-then-index-eq0
-returns-then-index-eq0 g c =
-    let m = g.T.Viewed.image c.args.self.now.image.now in
-    sym (ap (kind_at (members_in c.args.self.now.giving m)) c.if-index-eq0.true ∙ root_nothing c.args.self.now.giving m)
+pub made-requires : goal.made-requires
+made-requires g c κs =
+    let s = c.args.self.now in (
+      (refl, (refl, tt)),
+      in_kinds s.giving (g.T.Viewed.image s.image.now) s.members.now s.kinds.now s.are (s.fit s.giving) c.args.index
+          c.requires.within,
+    )
 
-pub member-found-requires : goal.member-found-requires
-member-found-requires g c κs = (
-  (refl, (refl, tt)),
-  (
-    is_within c.args.self.now.giving (g.T.Viewed.image c.args.self.now.image.now)
-        c.args.self.now.members.now c.args.index
-        c.args.self.now.are c.requires.within,
-    c.if-index-eq0.false,
-  ),
-)
+pub returns : goal.returns
+returns g c =
+    let s = c.args.self.now in
+    c.made.ensures
+    ∙ sym (kind_is_made s.giving (g.T.Viewed.image s.image.now) s.members.now s.kinds.now s.are (s.fit s.giving)
+    c.args.index c.requires.within)

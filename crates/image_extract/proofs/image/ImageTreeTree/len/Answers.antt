@@ -1,7 +1,7 @@
-use Rattle.image_extract.proofs.Known.{many}
+use Rattle.image_extract.proofs.Made.{many_made}
 use Rattle.image_extract.proofs.image.ImageTreeTree.len.Goals as goal
 
 pub returns : goal.returns
 returns g c =
-    many c.args.self.now.giving (g.T.Viewed.image c.args.self.now.image.now) c.args.self.now.members.now
-    c.args.self.now.are
+    let s = c.args.self.now in
+    many_made s.giving (g.T.Viewed.image s.image.now) s.members.now s.kinds.now s.are (s.fit s.giving)

@@ -1,19 +1,26 @@
-use Rattle.std.proofs.Common.{refl}
-use Rattle.image_extract.proofs.Known.{is_within, no_file, whole_at_ok}
+use Rattle.std.proofs.Common.{refl, ◌∙◌}
+use Rattle.image_extract.specs.Members.{members_in}
+use Rattle.image_extract.proofs.Known.{no_file, whole_at_ok}
+use Rattle.image_extract.proofs.Made.{file_was, in_members}
+use Rattle.tree_extract.proofs.Chosen.{bytes_with}
 use Rattle.image_extract.proofs.image.ImageTreeTree.write_contents.Goals as goal
 
 pub member-found-requires : goal.member-found-requires
-member-found-requires g c κs = (
-  (refl, (refl, tt)),
-  (
-    is_within c.args.self.now.giving (g.T.Viewed.image c.args.self.now.image.now)
-        c.args.self.now.members.now c.args.index
-        c.args.self.now.are c.requires.within,
-    no_file c.args.self.now.giving (g.T.Viewed.image c.args.self.now.image.now) c.args.index c.requires.file,
-  ),
-)
+member-found-requires g c κs =
+    let s = c.args.self.now in
+    let m = g.T.Viewed.image s.image.now in
+    let fit = s.fit s.giving in (
+      (refl, (refl, tt)),
+      (
+        in_members s.giving m s.members.now s.kinds.now s.are fit c.args.index c.requires.within,
+        no_file s.giving m c.args.index
+            (file_was s.giving m s.members.now s.kinds.now s.are fit c.args.index c.requires.within c.requires.file),
+      ),
+    )
 
 pub returns : goal.returns
 returns g c =
+    let s = c.args.self.now in
     let is = c.member-found.ensures in
-    whole_at_ok c.cat.result _ _ _ _ (c.cat.ensures.text is.node is.at) is.bytes
+    whole_at_ok c.cat.result _ _ _ _ (c.cat.ensures.text is.node is.at)
+    (bytes_with (members_in s.giving (g.T.Viewed.image s.image.now)) s.kinds.now c.args.index ∙ is.bytes)
