@@ -17,6 +17,7 @@ these are missing. The last line is `N passed, M failed`, with `, K skipped`.
 import collections
 import itertools
 import os
+import random
 import re
 import signal
 import stat
@@ -220,11 +221,52 @@ def the_same_bytes(binary, seed):
         yield "other bytes"
 
 
+def some_pattern(chance, path):
+    """Returns a pattern that fits a path, and a regular expression of what it fits."""
+    front, back = sorted(chance.randint(0, len(path)) for _ in range(2))
+    if chance.random() < 0.5:
+        front = back = len(path)
+    star, parts = front < back, (path[:front], path[back:])
+    plain, matched = ([escape(it) for it in parts] for escape in (lambda it: re.sub(r"([*?[\\])", r"\\\1", it), re.escape))
+    return ("*" if star else "").join(plain), (".*" if star else "").join(matched)
+
+
+def chosen_by(rules, names):
+    """Returns the names that match a regular expression, all below them, and the directories that lead to them."""
+    paths = {raw(name.path).rstrip(b"/") for name in names}
+    fits = {path for path in paths if is_text(path) and any(re.fullmatch(it, path[1:].decode(), re.S) for it in rules)}
+    below = {path for path in paths if any(path == it or path.startswith(it + b"/") for it in fits)}
+    above = {path for path in paths if any(it.startswith(path + b"/") for it in below)}
+    return [name for name in names if raw(name.path).rstrip(b"/") in below | above]
+
+
+def of_paths(binary, seed):
+    """Yields what is wrong with the names that patterns choose of the image of a manifest of any names."""
+    if manifests.build(binary, Made(seed), ".").returncode:
+        return
+    names, chance = entries(binary, "image"), random.Random(seed)
+    texts = [raw(it.path)[1:].decode() for it in names if is_text(raw(it.path)) and b"\0" not in raw(it.path)]
+    pairs = [some_pattern(chance, chance.choice(texts)) for _ in range(chance.randint(1, 3))]
+    chosen = chosen_by([rule for _, rule in pairs], names)
+    done = run(binary, "extract", "image", "out", *("/" + pattern for pattern, _ in pairs))
+    if any(all(it.kind not in "dfl" or it.path == "/" for it in chosen_by([rule], names)) for _, rule in pairs):
+        if answer(done) != (b"", b"usage\n", 2) or os.path.lexists("out"):
+            yield "%r, by which nothing is made: %s" % (pairs, shortly(done))
+    elif unfit := [name for name in chosen if not has_place(name, "out")]:
+        if answer(done) != (b"", ("file out%s\n" % unfit[0].path).encode(), 3) or os.path.lexists("out"):
+            yield "%r, a name that no file can have: %s" % (pairs, shortly(done))
+    elif answer(done) != (b"", b"", 0):
+        yield "%r: %s" % (pairs, shortly(done))
+    else:
+        for wrong in wrong_in_folder(binary, "image", [it for it in chosen], "out"):
+            yield "%r: %s" % (pairs, wrong)
+
+
 def by_chance(binary, arguments):
     """Tests random manifests in the current directory, and returns the exit status."""
     counts = Counts()
     for seed in range(arguments.first, arguments.first + arguments.count):
-        for test in (of_manifest, the_same_bytes):
+        for test in (of_manifest, the_same_bytes, of_paths):
             counts.result("%s, seed %d" % (test.__name__, seed), test(binary, seed))
             clear()
     return counts.close()
@@ -619,6 +661,37 @@ def further_names_are_told(binary):
         yield "links: %d" % os.stat("out/c").st_nlink
 
 
+def some_names(binary):
+    """Only what PATH.. match is made, with its directories; further names stay links; a pattern without a match is refused."""
+    lines = ["dir /bin 0755 0 0", "file /bin/busybox 0755 0 0 4 s", "dir /usr 0755 0 0", "hard /usr/awk /bin/busybox"]
+    lines += ["hard /usr/vi /bin/busybox", "slink /usr/sh 0777 0 0 awk", "dir /dev 0755 0 0", "nod /dev/null 0600 0 0 c 1 3"]
+    build_image(binary, lines, "romfs", [("s", b"s")])
+    for words, wanted in (
+        (["usr"], "usr usr/awk usr/sh usr/vi"),
+        (["/usr/vi", "bin/"], "bin bin/busybox usr usr/vi"),
+        (["*/[av]*"], "usr usr/awk usr/vi"),
+        (["/"], "bin bin/busybox dev usr usr/awk usr/sh usr/vi"),
+        (["usr/s?"], "usr usr/sh"),
+        (["dev/null"], "dev"),
+    ):
+        remove("out")
+        done = run(binary, "extract", "image", "out", *words)
+        found = sorted(os.path.relpath(os.path.join(at, it), "out") for at, *names in os.walk("out") for it in sum(names, []))
+        if answer(done) != (b"", b"", 0) or found != wanted.split():
+            yield "%r: %s %r" % (words, shortly(done), found)
+        numbers = {os.lstat("out/" + it).st_ino for it in found if it in ("bin/busybox", "usr/awk", "usr/vi")}
+        if len(numbers) > 1:
+            yield "%r: %d files of one" % (words, len(numbers))
+    nothing = b"romtool: %s: it matches no directory, file or link of the image\n"
+    for words, why in (
+        (["usr", "nothing"], nothing % b"nothing"), (["vi"], nothing % b"vi"), (["usr", ""], nothing % b""), (["usr", "["], b"romtool: [: "),
+    ):  # fmt: skip
+        remove("out")
+        done = run(binary, "--explain", "extract", "image", "out", *words)
+        if done.returncode != 2 or done.stdout or os.path.lexists("out") or not done.stderr.startswith(b"usage\n" + why):
+            yield "%r: %s %r" % (words, shortly(done), done.stderr)
+
+
 def modes_under_a_mask(binary):
     """The mask of the process is applied to modes, and not with `--owners`; a directory that is there keeps its mode."""
     modes = ["dir / 0777 0 0", "dir /d 1777 0 0", "file /a 0666 0 0 4 s", "file /x 0755 0 0 4 s"]
@@ -723,6 +796,7 @@ TESTS = [
     folders_that_are_there, links_that_lead_elsewhere, images_that_are_refused, names_that_no_file_has,
     images_that_no_manifest_tells, without_rights, owners, output_that_is_not_taken, calls_in_order, without_syncs, each_call_failed,
     memory_refused, many_files, of_cases, links_refused, further_names_are_told, modes_under_a_mask, interrupted,
+    some_names,
     failure_is_told, disks_that_fail_at_close, aligned_again, memory_of_names, many_times_the_image,
 ]  # fmt: skip
 

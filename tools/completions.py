@@ -35,20 +35,21 @@ class Option:
 
 @dataclass
 class Subcommand:
-    """A subcommand: its name, its sentence, the names of its words, whether the last one repeats, its options, and the sentences of
-    its words by their names."""
+    """A subcommand: its name, its sentence, the names of its words, whether the last one repeats and whether it may be left out, its
+    options, and the sentences of its words by their names."""
 
     name: str
     about: str
     words: list
     repeats: bool
+    is_optional: bool
     options: list
     sentences: dict
 
 
 # what help shows of itself, which is no part of the table
 ASKED = [Option("--help", None, "Print help", "-h"), Option("--version", None, "Print version", "-V")]
-HELP = Subcommand("help", "Prints help of a subcommand", ["[SUBCOMMAND]"], False, [], {})
+HELP = Subcommand("help", "Prints help of a subcommand", ["[SUBCOMMAND]"], False, False, [], {})
 
 
 def help_of(program, *words):
@@ -71,8 +72,9 @@ def subcommand(program, name, about):
     text = help_of(program, name)
     usage = re.search(r"^Usage: .*$", text, re.M)[0]
     listed = text.partition("\nArguments:\n")[2].partition("\n\n")[0]
-    sentences = dict(re.findall(r"^  <([^>]+)>(?:\.\.\.)? +(.*)$", listed, re.M))
-    return Subcommand(name, about, re.findall(r"<([^>]+)>", usage), usage.endswith("..."), options_in(text), sentences)
+    sentences = dict(re.findall(r"^  [<[]([^]>]+)[]>](?:\.\.\.)? +(.*)$", listed, re.M))
+    words = re.findall(r"(?:<|\[(?!OPTIONS))([^]>]+)[]>]", usage)
+    return Subcommand(name, about, words, usage.endswith("..."), usage.endswith("]..."), options_in(text), sentences)
 
 
 def table(program):

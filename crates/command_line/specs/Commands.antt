@@ -21,6 +21,11 @@ abbrev pub several_rule : Text → Rule
 several_rule name = record (value_rule name)
     { range = Some (record { start_inclusive = 1; end_inclusive = 65535 }) }
 
+-- at most 65,535 values
+abbrev pub any_rule : Text → Rule
+any_rule name = record (new_rule name)
+    { value_names = 1; range = Some (record { start_inclusive = 1; end_inclusive = 65535 }) }
+
 -- --NAME VALUE
 abbrev pub option_rule : Text → Rule
 option_rule name = record (new_rule name) { long = Some name; value_names = 1 }
@@ -128,7 +133,7 @@ other_shapes =
     ∷ flag_rule (codes "one-file-system") ∷ flag_rule (codes "strict") ∷ [])
     ∷ sub (codes "extract") (value_rule (codes "image") ∷ value_rule (codes "folder")
     ∷ option_rule (codes "align") ∷ flag_rule (codes "owners") ∷ flag_rule (codes "no-sync")
-    ∷ most_rule ∷ [])
+    ∷ most_rule ∷ any_rule (codes "path") ∷ [])
     ∷ sub (codes "version") ([])
     ∷ []
 

@@ -2,13 +2,13 @@
 use Rattle.std.specs.Prelude.{List, [], ◌∷◌, ◌++◌, map}
 use Rattle.clap.specs.Words.{Rule, Shape}
 use Rattle.command_line.specs.Commands.{few_rule, flag_rule, lettered_rule, option_rule}
-use Rattle.command_line.specs.Commands.{repeated_rule, several_rule, shape_with, value_rule}
+use Rattle.command_line.specs.Commands.{any_rule, repeated_rule, several_rule, shape_with, value_rule}
 use Rattle.command_line.specs.Commands.{explain_rule}
 use Rattle.command_line.specs.declared.table.Word.{Word}
 use Rattle.command_line.specs.declared.table.Subcommand.{Subcommand}
 use Rattle.command_line.specs.declared.table.Kind.{Kind}
 use Rattle.command_line.specs.declared.table.Kind.TheVariants.{Value, Few, Several, Option}
-use Rattle.command_line.specs.declared.table.Kind.TheVariants.{Lettered}
+use Rattle.command_line.specs.declared.table.Kind.TheVariants.{Any, Lettered}
 use Rattle.command_line.specs.declared.table.Kind.TheVariants.{Repeated, Flag}
 use Rattle.clap.specs.Words.{Text}
 
@@ -17,6 +17,7 @@ abbrev pub rule_of_kind : Kind → Text → Rule
 rule_of_kind Value name = value_rule name
 rule_of_kind Few name = few_rule name
 rule_of_kind Several name = several_rule name
+rule_of_kind Any name = any_rule name
 rule_of_kind Option name = option_rule name
 rule_of_kind (Lettered letter) name = lettered_rule letter name
 rule_of_kind Repeated name = repeated_rule name

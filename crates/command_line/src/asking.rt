@@ -672,8 +672,8 @@ fn align_of<'a>(values: &ArgMatches<'a>) -> Result<u32, WordsError<'a>>
     }
 }
 
-/// Returns the image that is to be taken apart, and the directory.
-fn extract_of<'a>(values: &ArgMatches<'a>) -> Result<Extract<'a>, WordsError<'a>>
+/// Returns the image that is to be taken apart, the directory, and the patterns of the paths.
+fn extract_of<'a>(alloc: Global, values: &ArgMatches<'a>) -> Result<Extract<'a>, WordsError<'a>>
     ensures { IfOk result (λ x. IsAskedBy (rows_of (found_of values.now)) (request.Extract x)) }
 {
     let image = wanted(values, "image")?;
@@ -681,12 +681,14 @@ fn extract_of<'a>(values: &ArgMatches<'a>) -> Result<Extract<'a>, WordsError<'a>
     let align = align_of(values)?;
     let owners = is_given(values, "owners");
     let no_sync = is_given(values, "no-sync");
+    let paths = texts_of(alloc, values, "path")?;
     Ok(Extract {
         image,
         directory,
         align,
         owners,
         no_sync,
+        paths,
     })
 }
 
@@ -754,7 +756,7 @@ pub fn asked<'a>(
         "build" => Ok(Request::Build(build_of(values)?)),
         "pack" => Ok(Request::Pack(pack_of(alloc, values)?)),
         "scan" => either_scan(alloc, values),
-        "extract" => Ok(Request::Extract(extract_of(values)?)),
+        "extract" => Ok(Request::Extract(extract_of(alloc, values)?)),
         _ => Err(Wrong::NoSubcommand.into()),
     }
 }

@@ -37,6 +37,7 @@ fn argument<'a>(alloc: Global, word: Word<'a>) -> Arg<'a>
             .required(true)
             .value_name(word.shown)
             .num_args(1..=65535),
+        Kind::Any => arg.value_name(word.shown).num_args(1..=65535),
         Kind::Option => arg.long(word.name).value_name(word.shown),
         Kind::Lettered(letter) => arg.long(word.name).value_name(word.shown).short(letter),
         Kind::Repeated => arg

@@ -249,7 +249,7 @@ pub struct Owner {
 }
 
 /// An image that is taken apart: its files into a directory, its manifest on standard output.
-#[derive(Clone, Copy)]
+#[derive(Drop)]
 pub struct Extract<'a> {
     pub image: &'a str,
     pub directory: &'a str,
@@ -259,4 +259,6 @@ pub struct Extract<'a> {
     pub owners: bool,
     /// Whether the program does not wait until the disk has the files.
     pub no_sync: bool,
+    /// The patterns of the paths that are taken; all if there are none.
+    pub paths: Vec<&'a str>,
 }

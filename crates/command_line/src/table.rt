@@ -9,6 +9,8 @@ pub enum Kind {
     Few,
     /// At least one value.
     Several,
+    /// Any number of values, which come last.
+    Any,
     /// `--NAME VALUE`, at most once.
     Option,
     /// `--NAME VALUE` or `-LETTER VALUE`, at most once.
@@ -493,6 +495,13 @@ const INTO: Word<'static> = Word {
     help: "The directory; it is made, or has to be empty",
 };
 
+const PATHS: Word<'static> = Word {
+    kind: Kind::Any,
+    name: "path",
+    shown: "PATH",
+    help: "Only what these patterns match, and all below it; without PATH, all files",
+};
+
 const OWNERS: Word<'static> = Word {
     kind: Kind::Flag,
     name: "owners",
@@ -671,7 +680,7 @@ pub const OTHERS: [Subcommand<'static>; 3] = [
     Subcommand {
         name: "extract",
         about: "Writes the files of an image into a directory, and prints its manifest",
-        words: &[IMAGE, INTO, ALIGN_AGAIN, OWNERS, NO_SYNC, MOST],
+        words: &[IMAGE, INTO, ALIGN_AGAIN, OWNERS, NO_SYNC, MOST, PATHS],
     },
     Subcommand {
         name: "version",

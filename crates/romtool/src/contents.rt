@@ -113,7 +113,7 @@ fn table(
         add_row(&mut text, alloc, most.saturating_sub(len), "free")?;
     }
     if asked.xip {
-        text.push_str("each program is executed in place\n")?;
+        text.push_str("each program is executed in place, except a last page that it shares\n")?;
     }
     text.push_str("the largest files:\n")?;
     for (size, line) in by_size(alloc, manifest, sizes)?.iter().take(LARGEST) {

@@ -34,6 +34,9 @@ const WORDS: [&[u8]; 5] = [b"dir", b"slink", b"nod", b"pipe", b"sock"];
 /// The word of a line that sets the attributes of a file.
 const MODE: &[u8] = b"mode";
 
+/// The form of such a line.
+const MODE_LINE: &str = "a mode line is: mode PATH MODE UID GID";
+
 /// Why a line of such a file is refused.
 #[derive(Drop)]
 pub enum LineError {
@@ -165,7 +168,10 @@ fn change_of(alloc: Global, number: u64, line: &[u8]) -> Result<Change, LineErro
     let mut text = Vec::new(alloc);
     text.extend_from_slice(b"dir")?;
     text.extend_from_slice(line.get(MODE.len()..).unwrap_or(&[]))?;
-    let file = file_of(alloc, number, &text)?;
+    let file = match file_of(alloc, number, &text) {
+        Err(LineError::Bad(fault)) => return Err(LineError::Other(fault, MODE_LINE)),
+        other => other?,
+    };
     Ok(Change {
         line: number,
         path: file.place,

@@ -1,23 +1,30 @@
-//! Takes an image apart: its directories, files and links into a directory, and its manifest to
-//! standard output.
+//! Takes an image apart: its directories, files and links, or some of them, into a directory, and
+//! its manifest to standard output.
+ghost use Rattle.std.specs.Prelude.{IfOk};
 ghost use Rattle.rom_tree.specs.Tree.{IsShallow};
 ghost use Rattle.image_check.specs.Any.{any_view};
+ghost use Rattle.image_extract.specs.Members.{members_in};
+ghost use Rattle.image_extract.specs.declared.giving.Giving.{Giving as AGiving};
 ghost use Rattle.image_manifest.specs.Describable.{IsLawfulTree};
+ghost use Rattle.image_manifest.specs.Members.{AreMembers};
+ghost use Rattle.tree_extract.specs.Choices.{IsFit};
 
 use crate::extraction::Extraction;
 use crate::reporter::Reporter;
 use crate::totals::is_many_times;
 use command_line::Extract;
 use image_check::AnyImage;
-use image_extract::{Giving, ImageTree, LENDING};
+use image_extract::{Giving, ImageTree, LENDING, kinds_made};
 use image_info::volume;
 use image_manifest::{FileRules, Member, Refused, members, write_manifest};
+use path_patterns::Piece;
 use program_streams::Again;
 use rom_commands::{Ending, Status};
 use rom_fields::{ByteWrite, Plain};
 use rom_tree::{Kind, Stat, TreeImage};
 use sentences::reasons::{INCOMPLETE, LONG_PATH, LONG_VOLUME};
 use std::io::{self, BufWriter};
+use std::slice;
 use system_files::base;
 use system_tree::{Syncing, System, Top};
 use tree_extract::{Kind as Made, Stopped, Tree, extract};
@@ -38,6 +45,9 @@ const FURTHER: &str = "further names of files, made as hard links; some editors 
 /// The words for further names that are files of their own.
 const COPIES: &str = "further names of files, made as copies, since this file system makes no hard \
     links; a build does not read the copies";
+
+/// The words for a pattern by which nothing is made.
+const MATCHES_NOTHING: &str = "it matches no directory, file or link of the image";
 
 /// The numbers that are reported in words.
 #[derive(Clone, Copy, Default)]
@@ -72,8 +82,11 @@ impl Extraction<'_> {
     /// Checks that the system accepts each name of what is made, and counts the names.
     fn try_names(&self, counts: &mut Counts) -> Result<(), Status> {
         for index in 0..self.tree.len() {
-            let stat = self.tree.stat(index);
-            counts.count(stat, self.tree.kind(index));
+            let (stat, made) = (self.tree.stat(index), self.tree.kind(index));
+            if !self.is_whole && made == Made::Nothing {
+                continue;
+            }
+            counts.count(stat, made);
             if is_made(stat.kind)
                 && let Err(e) = self.try_name(index)
             {
@@ -116,6 +129,7 @@ impl Extraction<'_> {
         let tree = ImageTree {
             image: self.tree.image,
             members: self.tree.members,
+            kinds: self.tree.kinds,
             giving: Giving {
                 masked: top.masked(),
                 ..self.tree.giving
@@ -201,11 +215,12 @@ fn print<'a>(
     Status::Done
 }
 
-/// Makes the files of an image in a directory, and prints the manifest of the image.
+/// Makes the files of an image in a directory, and prints the manifest of the image if no paths are
+/// asked for.
 fn take_apart<'a>(
     reporter: &'a Reporter<'a>,
     tree: &'a ImageTree<'a, 'a, AnyImage<'a>>,
-    asked: Extract<'a>,
+    asked: &'a Extract<'a>,
 ) -> Status
     requires { IsLawfulTree (any_view tree.now.image.now).tree }
 {
@@ -214,6 +229,7 @@ fn take_apart<'a>(
         reporter,
         tree,
         directory,
+        is_whole: asked.paths.is_empty(),
         syncing: if asked.no_sync {
             Syncing::Unsynced
         } else {
@@ -223,14 +239,53 @@ fn take_apart<'a>(
     match extraction.run(asked.directory) {
         Ok(counts) => {
             extraction.explain(counts);
+            if !extraction.is_whole {
+                return Status::Done;
+            }
             print(reporter, tree, directory, asked.align)
         }
         Err(status) => status,
     }
 }
 
+/// Returns what is made of the members of an image, by the patterns that are asked for. Refuses a
+/// pattern by which nothing is made.
+fn kinds_by<'a>(
+    reporter: &Reporter<'_>,
+    image: &AnyImage<'a>,
+    members: &[Member<'a>],
+    asked: &Extract<'_>,
+    patterns: &[Vec<Piece>],
+) -> Result<Vec<Made>, Status>
+    requires are { AreMembers (any_view image.now) members.now }
+    requires lawful { IsLawfulTree (any_view image.now).tree }
+    ensures { IfOk result (λ v. (g : AGiving) → IsFit (members_in g (any_view image.now)) v.items) }
+{
+    let alloc = reporter.rt.alloc();
+    for (text, pattern) in asked.paths.iter().zip(patterns) {
+        let Ok(kinds) = kinds_made(alloc, image, members, slice::from_ref(pattern)) else {
+            return Err(reporter.say(Ending::Memory));
+        };
+        // an empty word is that of a variable that is not set; the root is a slash
+        if text.is_empty() || kinds.iter().all(|kind| *kind == Made::Nothing) {
+            let status = reporter.say(Ending::Usage);
+            reporter.explain(text.as_bytes(), &MATCHES_NOTHING);
+            return Err(status);
+        }
+    }
+    match kinds_made(alloc, image, members, patterns) {
+        Ok(kinds) => Ok(kinds),
+        Err(_) => Err(reporter.say(Ending::Memory)),
+    }
+}
+
 /// Takes a checked image apart, prints its manifest, and returns the status.
-pub fn run<'a>(reporter: &'a Reporter<'a>, image: &'a AnyImage<'a>, asked: Extract<'a>) -> Status
+pub fn run<'a>(
+    reporter: &'a Reporter<'a>,
+    image: &'a AnyImage<'a>,
+    asked: &'a Extract<'a>,
+    patterns: &[Vec<Piece>],
+) -> Status
     requires shallow { IsShallow (any_view image.now).tree }
     requires lawful { IsLawfulTree (any_view image.now).tree }
 {
@@ -241,18 +296,22 @@ pub fn run<'a>(reporter: &'a Reporter<'a>, image: &'a AnyImage<'a>, asked: Extra
         return status;
     }
     match members(reporter.rt.alloc(), image) {
-        Ok(members) => take_apart(
-            reporter,
-            &ImageTree {
-                image,
-                members: &members,
-                giving: Giving {
-                    owners: asked.owners,
-                    masked: 0,
+        Ok(members) => match kinds_by(reporter, image, &members, asked, patterns) {
+            Ok(kinds) => take_apart(
+                reporter,
+                &ImageTree {
+                    image,
+                    members: &members,
+                    kinds: &kinds,
+                    giving: Giving {
+                        owners: asked.owners,
+                        masked: 0,
+                    },
                 },
-            },
-            asked,
-        ),
+                asked,
+            ),
+            Err(status) => status,
+        },
         Err(Refused::OutOfMemory) => reporter.say(Ending::Memory),
         Err(Refused::LongPath) => {
             let status = reporter.say(Ending::LongPath);

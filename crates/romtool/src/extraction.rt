@@ -1,7 +1,7 @@
 //! An image that is extracted, with what reports how that goes.
 ghost use Rattle.std.specs.Prelude.{◌≡◌, ◌<◌, length};
 ghost use Rattle.image_check.specs.Any.{any_view};
-ghost use Rattle.image_extract.specs.Members.{members_in};
+ghost use Rattle.image_extract.specs.Members.{made_in};
 
 use crate::reporter::Reporter;
 use image_check::AnyImage;
@@ -16,6 +16,8 @@ pub struct Extraction<'a> {
     pub reporter: &'a Reporter<'a>,
     pub tree: &'a ImageTree<'a, 'a, AnyImage<'a>>,
     pub directory: &'a str,
+    /// Whether all names of the image are made, and not only those that patterns choose.
+    pub is_whole: bool,
     /// Whether what is made is synced to the disk.
     pub syncing: Syncing,
 }
@@ -34,16 +36,16 @@ impl<'a> Extraction<'a> {
 
     /// Checks that the system accepts the path of the member at an index, and a link's text.
     pub fn try_name(&self, index: usize) -> io::Result<()>
-        requires { index < length (members_in self.now.tree.now.giving
-            (any_view self.now.tree.now.image.now)) }
+        requires { index < length (made_in self.now.tree.now.giving
+            (any_view self.now.tree.now.image.now) self.now.tree.now.kinds.now) }
     {
         self.members().try_name(index, self.directory.len())
     }
 
     /// Reports why the member at an index cannot be made, or could not be made.
     pub fn refused(&self, index: usize, e: &io::Error) -> Status
-        requires { index < length (members_in self.now.tree.now.giving
-            (any_view self.now.tree.now.image.now)) }
+        requires { index < length (made_in self.now.tree.now.giving
+            (any_view self.now.tree.now.image.now) self.now.tree.now.kinds.now) }
     {
         match self.members().named_in(self.directory, index) {
             Ok(name) => self.reporter.refused(&name, e),

@@ -7,7 +7,7 @@ ghost use Rattle.image_manifest.specs.Describable.{IsLawfulTree};
 ghost use Rattle.rom_commands.specs.Asked.{Fits};
 
 use crate::output::{errors, lines, output};
-use crate::patterns::only;
+use crate::patterns::{all_pieces, only};
 use crate::printed::in_file;
 use crate::reporter::Reporter;
 use crate::{dump, extracting, reading, totals};
@@ -193,9 +193,10 @@ pub fn cat(reporter: &Reporter<'_>, asked: Cat<'_>) -> Result<Status, Status> {
 
 /// Takes the image in a file apart.
 pub fn extract(reporter: &Reporter<'_>, asked: Extract<'_>) -> Result<Status, Status> {
+    let patterns = all_pieces(reporter, &asked.paths)?;
     let loaded = loaded_data(reporter, asked.image)?;
     let image = checked(reporter, asked.image, &loaded.bytes)?;
-    Ok(extracting::run(reporter, &image, asked))
+    Ok(extracting::run(reporter, &image, &asked, &patterns))
 }
 
 /// Returns the number of bytes of an image's file, if each of them has an address of 64 bits.

@@ -1,4 +1,5 @@
-//! The patterns of a scan, for excluded paths and for alignments, and those of a map.
+//! The patterns of a scan, for excluded paths and for alignments, and those of a map and of an
+//! extraction.
 use crate::reporter::Reporter;
 use command_line::ScanAll;
 use inspect_commands::Only;
@@ -40,8 +41,8 @@ fn pieces(reporter: &Reporter<'_>, pattern: &str) -> Result<Vec<Piece>, Status> 
     Err(status)
 }
 
-/// The pieces of several patterns. Reports why a text is not a pattern.
-fn all_pieces(reporter: &Reporter<'_>, texts: &[&str]) -> Result<Vec<Vec<Piece>>, Status> {
+/// Returns the pieces of several patterns. Reports why a text is not a pattern.
+pub fn all_pieces(reporter: &Reporter<'_>, texts: &[&str]) -> Result<Vec<Vec<Piece>>, Status> {
     let mut patterns = Vec::new(reporter.rt.alloc());
     for text in texts {
         if patterns.push(pieces(reporter, text)?).is_err() {
