@@ -8,7 +8,7 @@
 #include "romtool.h"
 
 /* The first byte of the file of a path, if the file is in one piece in the image; otherwise NULL. */
-static const uint8_t *entry_of(const struct romtool_image *image, const char *path) {
+static const uint8_t *first_byte_of(const struct romtool_image *image, const char *path) {
     struct romtool_file file = ROMTOOL_INIT;
     if (romtool_open_str(&file, image, path)) {
         return NULL;
@@ -49,7 +49,7 @@ int main(int argc, char **argv) {
         free(flash);
         return 1;
     }
-    const uint8_t *entry = entry_of(&image, argv[2]);
+    const uint8_t *entry = first_byte_of(&image, argv[2]);
     if (entry) {
         printf("at %td of the image: %02x %02x %02x %02x\n", entry - flash, entry[0], entry[1], entry[2], entry[3]);
     }
