@@ -684,7 +684,7 @@ def some_names(binary):
             yield "%r: %d files of one" % (words, len(numbers))
     nothing = b"romtool: %s: it matches no directory, file or link of the image\n"
     for words, why in (
-        (["usr", "nothing"], nothing % b"nothing"), (["vi"], nothing % b"vi"), (["usr", ""], nothing % b""), (["usr", "["], b"romtool: [: "),
+        (["usr", "no"], nothing % b"no"), (["vi"], nothing % b"vi"), (["usr", ""], nothing % b""), (["usr", "["], b"romtool: [: "),
     ):  # fmt: skip
         remove("out")
         done = run(binary, "--explain", "extract", "image", "out", *words)

@@ -2,8 +2,8 @@
 use Rattle.std.specs.Prelude.{List, [], ◌∷◌, ◌++◌, map}
 use Rattle.clap.specs.Words.{Rule, Shape}
 use Rattle.command_line.specs.Commands.{few_rule, flag_rule, lettered_rule, option_rule}
-use Rattle.command_line.specs.Commands.{any_rule, repeated_rule, several_rule, shape_with, value_rule}
-use Rattle.command_line.specs.Commands.{explain_rule}
+use Rattle.command_line.specs.Commands.{repeated_rule, several_rule, shape_with, value_rule}
+use Rattle.command_line.specs.Commands.{any_rule, explain_rule}
 use Rattle.command_line.specs.declared.table.Word.{Word}
 use Rattle.command_line.specs.declared.table.Subcommand.{Subcommand}
 use Rattle.command_line.specs.declared.table.Kind.{Kind}

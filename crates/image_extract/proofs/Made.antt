@@ -2,7 +2,8 @@
 use Rattle.std.proofs.Common.{◌≡◌, ℕ, ◌<◌, Bool, List, length, refl, sym, ap, ◌∙◌, arith, subst, true}
 use Rattle.std.specs.Prelude.{Result, Ok, Err, IfOk, IsSomeAnd, Option, Some, None}
 use Rattle.rom_tree.specs.Image.{HasLink, Image}
-use Rattle.rom_tree.specs.Tree.{Node, node, directory, regular, symlink, block, character, socket, fifo, is_link, kind_of}
+use Rattle.rom_tree.specs.Tree.{Node, node, directory, regular, symlink, block, character, socket, fifo}
+use Rattle.rom_tree.specs.Tree.{is_link, kind_of}
 use Rattle.image_manifest.specs.Describable.{IsLawfulTree}
 use Rattle.image_manifest.specs.Members.{AreMembers}
 use Rattle.image_manifest.specs.declared.naming.Member.{Member}

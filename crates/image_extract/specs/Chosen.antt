@@ -1,7 +1,7 @@
 -- `AreChosen`: the members that patterns choose, and the directories that lead to them. (This
 -- project's own.)
-use Rattle.std.specs.Prelude.{◌≡◌, ◌<◌, ℕ, ◌==◌, nat_lt, Bool, true, false, cond, List, [], ◌∷◌, map}
-use Rattle.std.specs.Prelude.{get_or, length, Option, Some, None}
+use Rattle.std.specs.Prelude.{◌≡◌, ◌<◌, ℕ, ◌==◌, nat_lt, Bool, true, false, cond, List, [], ◌∷◌}
+use Rattle.std.specs.Prelude.{map, get_or, length, Option, Some, None}
 use Rattle.path_patterns.specs.Several.{fits_any}
 use Rattle.path_patterns.specs.declared.pattern.Piece.{Piece}
 use Rattle.rom_tree.specs.Image.{Image}

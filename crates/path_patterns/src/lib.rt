@@ -2,9 +2,9 @@
 //!
 //! Proved: `pieces_of` reads a pattern's text as `specs/Reading.antt` defines, and `matches`
 //! returns whether a pattern's pieces match a path, as `specs/Patterns.antt` defines, for each
-//! pattern and each path, `matches_bytes` the same for a path as bytes of UTF-8, and `any_matches` for
-//! one of several patterns. The time is at most the path's length times the pattern's. A pattern without wildcards and backslashes matches
-//! exactly its own text (`laws`).
+//! pattern and each path, `matches_bytes` the same for a path as bytes of UTF-8, and `any_matches`
+//! for one of several patterns. The time is at most the path's length times the pattern's. A
+//! pattern without wildcards and backslashes matches exactly its own text (`laws`).
 #![tactic(auto)]
 
 mod bytes;

@@ -1,6 +1,6 @@
 //! The walk along a path.
-ghost use Rattle.std.specs.Prelude.{Bool, ◌≡◌, ◌<◌, ◌≤◌, ◌*◌, true, MatchResult, IfOk, Ok, Err, length};
-ghost use Rattle.std.specs.Prelude.{Some, map};
+ghost use Rattle.std.specs.Prelude.{Bool, ◌≡◌, ◌<◌, ◌≤◌, ◌*◌, true, MatchResult, IfOk, Ok, Err};
+ghost use Rattle.std.specs.Prelude.{Some, length, map};
 ghost use Rattle.rom_tree.specs.Tree.{Node, IsShallow};
 ghost use Rattle.rom_tree.specs.Image.{image_node};
 ghost use Rattle.path_walk.specs.Components.{components};

@@ -57,7 +57,8 @@ impl<'a> System<'a> {
         ensures room { OnOk result (0 < room_of self.new.account) }
         ensures place { IfOk result (λ p. string_bytes p ≡ codes "."
             ++ path_at (made_in self.old.members.tree.now.giving
-            (any_view self.old.members.tree.now.image.now) self.old.members.tree.now.kinds.now) index) }
+            (any_view self.old.members.tree.now.image.now)
+            self.old.members.tree.now.kinds.now) index) }
     {
         self.account.reserve()?;
         self.members.place(index)

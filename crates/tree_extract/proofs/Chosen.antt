@@ -1,7 +1,7 @@
 -- Members of which some are chosen can be extracted.
-use Rattle.std.proofs.Common.{◌≡◌, ◌≢◌, ℕ, zero, suc, ◌<◌, ◌&&◌, ◌==◌, Bool, true, false, List, [], ◌∷◌, ◌++◌, length}
-use Rattle.std.proofs.Common.{get_or, map, Option, Some, None, if◌then◌else◌, refl, ap, sym, subst, ◌∙◌, arith, inl, inr}
-use Rattle.std.proofs.Common.{◌⊎◌, length-append}
+use Rattle.std.proofs.Common.{◌≡◌, ◌≢◌, ℕ, zero, suc, ◌<◌, ◌&&◌, ◌==◌, Bool, true, false, List, [], ◌∷◌, ◌++◌}
+use Rattle.std.proofs.Common.{length, get_or, map, Option, Some, None, if◌then◌else◌, refl, ap, sym, subst, ◌∙◌, arith}
+use Rattle.std.proofs.Common.{inl, inr, ◌⊎◌, length-append}
 use Rattle.std.proofs.Math.Seq.{get_or-append_seam}
 use Rattle.std.proofs.lemmas.Bool.{eqb-true}
 use Rattle.std.proofs.lemmas.List.{get_or_append_left}
@@ -120,8 +120,9 @@ module _ (ks : List Kind) (cs : List Bool) where
   is_first file (suc n) first e =
       by (is_first file n first) (first_chosen ks cs file n) (names ks cs file n) refl refl e
     where
-      by : (first_chosen ks cs file n ≡ Some first → IsFirst file n first) → (o : Option ℕ) (b : Bool) → first_chosen ks cs file n ≡ o → names ks cs file n ≡ b
-          → or_at o b n ≡ Some first → IsFirst file (suc n) first
+      by : (first_chosen ks cs file n ≡ Some first → IsFirst file n first) → (o : Option ℕ) (b : Bool)
+          → first_chosen ks cs file n ≡ o → names ks cs file n ≡ b → or_at o b n ≡ Some first
+          → IsFirst file (suc n) first
       by before None true o_is b_is is =
           let at : n ≡ first = same_some n first is in record {
             below = omega (arith, at);
@@ -241,7 +242,8 @@ module _ (ms : List Member) (ks : List Kind) (can : AreMembers ms) (fit : IsFit 
   pub can_with : AreMembers (with_kinds ms ks)
   can_with = record {
     plain = λ i h is. subst IsPlain (sym (path_with ms ks i))
-        (can.plain i (inside i h) (λ none. is (kind_with ms ks i fit.many (inside i h) ∙ fit.nothing i (inside i h) none)));
+        (can.plain i (inside i h)
+        (λ none. is (kind_with ms ks i fit.many (inside i h) ∙ fit.nothing i (inside i h) none)));
     distinct = λ i j a b is. can.distinct i j (inside i a) (inside j b)
         (sym (path_with ms ks i) ∙ is ∙ path_with ms ks j);
     leaves = λ i j a b is through. can.leaves i j (inside i a) (inside j b)

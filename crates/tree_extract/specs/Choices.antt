@@ -1,8 +1,8 @@
 -- `kinds_chosen`: what is made of the members of a tree if only some of them are chosen: nothing of
 -- the others. The first chosen name of a file is the file, and each other one a further name of it.
 -- `with_kinds`: members of which this is made. (This project's own.)
-use Rattle.std.specs.Prelude.{◌≡◌, ◌<◌, ℕ, zero, suc, ◌==◌, ◌&&◌, if◌then◌else◌, Bool, true, false, List}
-use Rattle.std.specs.Prelude.{[], ◌∷◌, ◌++◌, map, get_or, length, Option, Some, None}
+use Rattle.std.specs.Prelude.{◌≡◌, ◌<◌, ℕ, zero, suc, ◌==◌, ◌&&◌, if◌then◌else◌, Bool, true, false}
+use Rattle.std.specs.Prelude.{List, [], ◌∷◌, ◌++◌, map, get_or, length, Option, Some, None}
 use Rattle.tree_extract.specs.Extracted.{is_file}
 use Rattle.tree_extract.specs.Members.{Member, kind_at}
 use Rattle.tree_extract.specs.declared.tree.Kind.{Kind}

@@ -29,14 +29,15 @@ fn name_of(first: Option<usize>) -> Kind
     }
 }
 
-/// Returns what is made of a member, and notes its index if it is the first name of its file that is
-/// made.
+/// Returns what is made of a member, and notes its index if it is the first name of its file that
+/// is made.
 fn choice(kind: Kind, index: usize, is_chosen: bool, firsts: &mut Vec<Option<usize>>) -> Kind
     requires { IfSome (file_by kind index) (λ file. file < length firsts.old.items) }
     ensures kind { result ≡ kind_after is_chosen firsts.old.items index kind }
     ensures length { length firsts.new.items ≡ length firsts.old.items }
     ensures noted { (f : ℕ) → get_or firsts.new.items f None
-        ≡ or_at (get_or firsts.old.items f None) (is_chosen && is_file_at f (file_by kind index)) index }
+        ≡ or_at (get_or firsts.old.items f None)
+        (is_chosen && is_file_at f (file_by kind index)) index }
 {
     if !is_chosen {
         return Kind::Nothing;

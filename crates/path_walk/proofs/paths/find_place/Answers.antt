@@ -1,5 +1,5 @@
-use Rattle.std.proofs.Common.{◌≡◌, ℕ, ◌∷◌, [], ◌++◌, List, length, ap, sym, ◌∙◌, subst, arith, true, Bool, ◌==◌, ◌*◌, ◌<◌}
-use Rattle.std.proofs.Common.{refl, Result, Ok, Err, length-append}
+use Rattle.std.proofs.Common.{◌≡◌, ℕ, ◌∷◌, [], ◌++◌, List, length, ap, sym, ◌∙◌, subst, arith, true, Bool, ◌==◌, ◌*◌}
+use Rattle.std.proofs.Common.{◌<◌, refl, Result, Ok, Err, length-append}
 use Rattle.std.specs.Prelude.{not, ◌&&◌, if◌then◌else◌}
 use Rattle.std.specs.Borrow.{Bor}
 use Rattle.rom_tree.specs.Image.{Image, contents_of}

@@ -170,8 +170,8 @@ push-requires g c =
     let i : IsTrail ms us c.args.current.now c.args.ancestors.now.items s = c.requires.trail.1 in
     let f = c.in-Some.ensures.found s.current i.named in (
       omega (arith, c.requires.few),
-      trail_room ms us c.args.current.now c.args.ancestors.now.items s f.0 c.args.component.now g.row.N c.requires.mounts
-          c.requires.places i f.1,
+      trail_room ms us c.args.current.now c.args.ancestors.now.items s f.0 c.args.component.now g.row.N
+          c.requires.mounts c.requires.places i f.1,
     )
 
 pub returns-clause-leads : goal.returns-clause-leads
