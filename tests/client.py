@@ -34,6 +34,15 @@ class Client:
             self.bytes = file.read()
         self.server = subprocess.Popen([binary, "serve", image], stdin=subprocess.PIPE, stdout=subprocess.PIPE, bufsize=0)
 
+    def __enter__(self):
+        return self
+
+    def __exit__(self, *_):
+        self.server.kill()
+        self.server.wait()
+        self.server.stdin.close()
+        self.server.stdout.close()
+
     def ask(self, line):
         """Returns the fields of the reply to a line, after `ok`."""
         self.server.stdin.write(line + b"\n")
@@ -118,20 +127,15 @@ class Client:
 
 def wrong_image(binary, image, listed):
     """Returns what is wrong in the replies on an image that has this list."""
-    client = Client(binary, image)
-    try:
-        got = b"".join(line + b"\n" for line in client.lines(b""))
-        if got != listed:
-            return ["list   %r" % listed[:400], "client %r" % got[:400]]
-        status = client.quit()
-        return [] if status == 0 else ["status %d" % status]
-    except Wrong as wrong:
-        return [str(wrong)]
-    finally:
-        client.server.kill()
-        client.server.wait()
-        client.server.stdin.close()
-        client.server.stdout.close()
+    with Client(binary, image) as client:
+        try:
+            got = b"".join(line + b"\n" for line in client.lines(b""))
+            if got != listed:
+                return ["list   %r" % listed[:400], "client %r" % got[:400]]
+            status = client.quit()
+            return [] if status == 0 else ["status %d" % status]
+        except Wrong as wrong:
+            return [str(wrong)]
 
 
 def is_small(listed):

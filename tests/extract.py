@@ -30,6 +30,7 @@ import manifests
 import rooms
 import traced
 from files import bytes_in, clear, put, remove
+from formats import volume_of
 from harness import HERE, SECONDS, Counts, add_seeds, missing, program_of
 from manifests import Made
 from romtool import WORDS, answer, entries, escaped, raw, run
@@ -61,11 +62,6 @@ class Plain(Made):
             super().add()
         finally:
             manifests.ALIGNMENTS = before
-
-
-def volume_of(data):
-    """Returns the name of an image's volume."""
-    return (data[16:] if data.startswith(b"-rom1fs-") else data[48:64]).split(b"\0")[0]
 
 
 def manifest_of(data, names, folder):
