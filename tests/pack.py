@@ -187,7 +187,7 @@ def rebuilds_in(tester, place, rules, inside):
 
 
 def faked(tester):
-    """A scan is refused if fakeroot or pseudo is in the environment and not in the program. Under fakeroot it shows what fakeroot does."""
+    """A scan is refused if fakeroot or pseudo is in the environment and not in the program."""
     room = tester.room
     os.makedirs(f"{room}/faked")
     for name, value, is_refused in (
@@ -201,10 +201,16 @@ def faked(tester):
     place = {**os.environ, "PSEUDO_PREFIX": "/x", "PSEUDO_DISABLED": "1"}
     ran = subprocess.run([tester.program, "scan", "--all", "faked"], cwd=room, stdout=subprocess.DEVNULL, env=place, timeout=SECONDS)
     tester.is_same("pseudo that is disabled", ran.returncode, 0)
+
+
+def under_fakeroot(tester):
+    """Under fakeroot a scan shows what fakeroot does."""
+    room = tester.room
+    os.makedirs(f"{room}/under")
     if not shutil.which("fakeroot"):
         tester.counts.skips("fakeroot: it is not there")
         return
-    script = 'mknod faked/null c 1 3 && chown 5:6 faked && "$0" scan --all faked'
+    script = 'mknod under/null c 1 3 && chown 5:6 under && "$0" scan --all under'
     ran = subprocess.run(["fakeroot", "sh", "-c", script, tester.program], cwd=room, capture_output=True, text=True, timeout=SECONDS)
     wanted = (0, "dir / 0755 5 6\nnod /null 0644 0 0 c 1 3\n")
     tester.is_same("under fakeroot", (ran.returncode, ran.stdout), wanted)
@@ -218,7 +224,7 @@ def main():
     with tempfile.TemporaryDirectory(prefix="romtool-") as room:
         tester = Tester(program_of(arguments), Counts(), room)
         try:
-            for test in (partitions, words_for_people, refused, rebuilds, faked):
+            for test in (partitions, words_for_people, refused, rebuilds, faked, under_fakeroot):
                 test(tester)
             for seed in range(arguments.first, arguments.first + arguments.count):
                 one_directory(tester, seed, random.Random(seed))

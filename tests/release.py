@@ -97,6 +97,7 @@ sys.path.insert(0, TOOLS)
 
 import completions  # noqa: E402
 import installation  # noqa: E402
+import unproved_aarch64  # noqa: E402
 
 
 def ran(words, **more):
@@ -294,6 +295,7 @@ def contents(folder, counts):
     version = installation.version()
     wanted = ["PROVENANCE.txt", "SHA256SUMS", "romtool-%s-x86_64-linux-objects.tar.gz", "romtool-%s-x86_64-linux.tar.gz"]
     wanted += ["romtool-dev_%s_amd64.deb", "romtool-embedded-%s.tar.gz", "romtool-mount_%s_amd64.deb", "romtool_%s_amd64.deb"]
+    wanted += [] if unproved_aarch64.lacks() else ["romtool-%s-aarch64-linux.tar.gz", "romtool-%s-aarch64-linux-objects.tar.gz"]
     counts.equal("the files of the release", sorted(os.listdir(folder)), sorted(it.replace("%s", version) for it in wanted))
     works(counts, ["sha256sum", "--check", "--quiet", "SHA256SUMS"], cwd=folder)
     with open(folder + "/PROVENANCE.txt", encoding="utf-8") as it:
@@ -444,6 +446,38 @@ def lint(folder, counts):
     counts.equal("lintian", [it for it in said.splitlines() if it.startswith("E:")] or status, 0)
 
 
+def linked_again(folder, top, counts):
+    """Each romtool-static is linked once more of its object files, by the words beside them, and has the same bytes."""
+    for path in sorted(glob.glob(folder + "/*-objects.tar.gz")):
+        name = os.path.basename(path).removesuffix("-objects.tar.gz")
+        for it in (path, "%s/%s.tar.gz" % (folder, name)):
+            with tarfile.open(it) as archive:
+                archive.extractall(top + "/linked")
+        room = "%s/linked/%s" % (top, name)
+        words = re.findall(r"^    (.*)$", held(room + "-objects/README").decode(), re.M)
+        works(counts, shlex.split(words[0]), cwd=room + "-objects")
+        counts.equal("romtool-static of " + name, held(room + "-objects/romtool-static") == held(room + "/bin/romtool-static"), True)
+
+
+def for_aarch64(folder, prefix, top, counts):
+    """The archive for aarch64 has its programs, and all that the other one has beside them. What of this is proved is said."""
+    if why := unproved_aarch64.lacks():
+        counts.skips("the programs for aarch64: " + why)
+        return
+    room = "%s/linked/romtool-%s-aarch64-linux" % (top, installation.version())
+    more = [it for it in below(prefix) if not re.match(r"lib/|include/|bin/romtool-mount|.*/romtool-mount\.1|.*/examples/", it)]
+    counts.equal("the files for aarch64", below(room), more)
+    told = held(folder + "/PROVENANCE.txt").decode()
+    counts.equal("PROVENANCE.txt of aarch64", "The programs for aarch64 are NOT PROVED." in told, True)
+    for name, more in (("romtool", ["-L", "/usr/aarch64-linux-gnu"]), ("romtool-static", [])):
+        path = "%s/bin/%s" % (room, name)
+        total = hashlib.sha256(held(path)).hexdigest()
+        counts.equal("the checksum for aarch64: " + name, "%s for aarch64: sha256 %s\n" % (name, total) in told, True)
+        if shutil.which("qemu-aarch64"):
+            said = ran(["qemu-aarch64", *more, path, "help"])
+            counts.equal("%s for aarch64 and this machine" % name, said, ran([prefix + "/bin/" + name, "help"]))
+
+
 def answers(program, counts):
     """The program of the release answers each case as its tests have it."""
     status, said = ran([sys.executable, HERE + "/run.py", "--binary", program])
@@ -546,6 +580,8 @@ def main():
             with tarfile.open("%s/%s.tar.gz" % (folder, os.path.basename(prefix))) as archive:
                 archive.extractall(top + "/unpacked")
             contents(folder, counts)
+            linked_again(folder, top, counts)
+            for_aarch64(folder, prefix, top, counts)
             packages(folder, prefix + "/bin/romtool-static", top, counts)
             under_fakeroot(prefix + "/bin/romtool", top, "archive", counts)
             static_under_fakeroot(prefix + "/bin/romtool-static", top, counts)

@@ -1,0 +1,175 @@
+#!/usr/bin/env python3
+"""Builds the programs for aarch64, and has qemu run them.
+
+    aarch64.py [--binary PATH] [--made DIR]
+
+tools/unproved --aarch64 builds both, unless DIR has them. The static one makes each run of the cases (see run.py); a case that
+limits the memory limits that of the emulated program. It packs random directories as pack.py does, its images of random manifests
+are compared with `map`, `info`, `digest` and `extents` as the scripts of these names do, and it passes the tests of SOME, of the
+scripts that have the system interfere: links as OUT, disks that are full, directories of others. The other one answers as
+PATH does what BOTH asks. c/aarch64.c answers as the kit's archives do (c/kit.c). What is left out: tests that trace calls, since
+those of the emulator are seen, too, and fakeroot, which does not reach a program in the emulator. The last line is `N passed,
+M failed`, with `, K skipped` if a tool is missing.
+"""
+
+import errno
+import os
+import random
+import subprocess
+import sys
+import tempfile
+
+import c
+import digest
+import extents
+import files
+import info
+import map as mapped
+import pack
+import rooms
+import run
+from harness import HERE, TOP, Counts, missing, parser, program_of
+from unproved import answers
+
+sys.path.insert(0, os.path.join(TOP, "tools"))
+
+import unproved_aarch64 as tool  # noqa: E402
+
+LIBRARIES = "/usr/aarch64-linux-gnu"
+SEEDS, PACKED = range(1, 4), range(1, 11)
+# tests of other scripts, by their names
+SOME = {
+    "extract_into": ("",),
+    "extract": ("folders_that_are_there", "links_that_lead_elsewhere", "owners", "further_names_are_told"),
+    "edge": ("out_behind_forty_links", "owner_is_kept", "closed_streams"),
+    "edge_kept": ("file_system_that_loses", "file_server_that_is_full", "out_is_standard_output", "group_of_out", "out_of_another_user"),
+    "edge_scan": ("odd_folders", "every_byte", "folders_that_are_forbidden"),
+}
+# what both programs do in a directory
+BOTH = {
+    "folders": ["tree/d"],
+    "files": {"tree/d/a": {"size": 5000, "at": {"9": "x"}}, "tree/b": "b", "old": "old", "manifest": "file /a 0644 0 0 4096 tree/b\n"},
+    "links": {"out": "old", "tree/link": "d/a"},
+    "runs": [{"words": words.split(" ")} for words in (
+        "--version", "pack --quiet --all-root --align 4096 cramfs tree image", "check image", "list image", "scan --all --all-root tree",
+        "build romfs manifest out", "map out", "digest image", "build romfs manifest none/out", "build romfs none out", "check tree",
+        "build --size 2K romfs manifest /dev/full", "extract image new", "extract image new", "extract image tree/b", "diff image out",
+    )],
+}  # fmt: skip
+
+
+def script(words, path):
+    """Writes a script that runs a program for aarch64 in the emulator, and returns its path."""
+    with open(path, "w", encoding="utf-8") as it:
+        it.write('#!/bin/sh\nexec qemu-aarch64 %s "$@"\n' % words)
+    os.chmod(path, 0o755)
+    return path
+
+
+def kit(part, top, counts):
+    """The functions of c/aarch64.c, in the emulator, answer as those of the kit's archives do on this machine."""
+    room, source = top + "/kit", HERE + "/c/kit.c"
+    os.makedirs(room + "/dir")
+    os.symlink("dir", room + "/link")
+    files.put(room + "/file")
+    archives = ["%s/c/%s" % (tool.installation.kit_directory(), it) for it in ("libos_c.a", "liblibc_c.a")]
+    said = []
+    for compiler, more, parts, emulator in (("cc", [], archives, []), (tool.CC, ["-static"], [part], ["qemu-aarch64"])):
+        words = [compiler, "-std=c99", "-D_DEFAULT_SOURCE", "-O1", *c.STRICTER, *more, source, *parts, "-o", room + "/program"]
+        if c.compiled(words, counts):
+            done = c.said([*emulator, room + "/program", "four", ""], cwd=room, env={**os.environ, "KIT": "value"})
+            said.append((done.returncode, done.stdout))
+    counts.equal("c/aarch64.c and the kit", said[1:], said[:1])
+    counts.equal("the kit does not follow links", [b"\nlink: %d 0\n" % errno.ENOTDIR in it for _, it in said], [True, True])
+
+
+def of_cases(static, top, counts):
+    """Makes each run of each case. Those with a limit of memory are made in an address space of that size."""
+    for topic in run.topics():
+        for case in run.load(topic):
+            for limit in sorted({it.get("memory", 0) for it in case["runs"]}):
+                runs = [{**it, "memory": None} for it in case["runs"] if it.get("memory", 0) == limit]
+                words = "-R %d %s" % (limit // 65536 * 65536, static)
+                run.done_case(script(words, top + "/case"), "%s: %s" % (topic, case["name"]), {**case, "runs": runs}, False, counts)
+
+
+def packs(program, counts):
+    """Packs random directories in one step and in two, as pack.py does; also what is refused, and rules for make."""
+    with tempfile.TemporaryDirectory(prefix="romtool-") as room:
+        tester = pack.Tester(program, counts, room)
+        for test in (pack.partitions, pack.words_for_people, pack.refused, pack.rebuilds, pack.faked):
+            test(tester)
+        for seed in PACKED:
+            pack.one_directory(tester, seed, random.Random(seed))
+
+
+def extents_of(program, seed, folder):
+    """Compares where the bytes of an image are with another reader of it."""
+    image, chance = extents.built(program, seed, folder)
+    extents.compare(program, image, chance.choice(extents.BASES), folder, chance, False)
+
+
+def of_seeds(program, counts):
+    """Builds images of random manifests, and compares what is printed of them."""
+    for seed in SEEDS:
+        with tempfile.TemporaryDirectory(prefix="romtool-") as folder:
+            counts.result("info: seed %d" % seed, info.of_manifest(program, seed, folder))
+            for name, wrong, test in (
+                ("map", mapped.Wrong, lambda: mapped.of_manifest(program, seed, folder)),
+                ("digest", digest.Wrong, lambda: digest.of_manifest(program, seed)),
+                ("extents", extents.Wrong, lambda: extents_of(program, seed, folder)),
+            ):
+                try:
+                    test()
+                    counts.passes()
+                except wrong as why:
+                    counts.fails("%s: seed %d" % (name, seed), [str(why)])
+
+
+def of_script(name, test, program, counts):
+    """Has another script make its tests of this name, and adds its counts."""
+    words = [sys.executable, "%s/%s.py" % (HERE, name), "--binary", program, "--name", test]
+    said = subprocess.run(words, stdout=subprocess.PIPE, stderr=subprocess.STDOUT, text=True, errors="replace").stdout
+    found = [int(it or 0) for it in (rooms.LAST.findall(said) or [(0, 1, 0)])[-1]]
+    counts.passed, counts.failed, counts.skipped = (a + b for a, b in zip((counts.passed, counts.failed, counts.skipped), found))
+    print("".join(said.splitlines(True)[:-1]) + ("FAILED %s: %s\n" % (name, test)) * bool(found[1]), end="")
+
+
+def lacks():
+    """Returns why nothing can be built or run here, or nothing."""
+    if it := missing("cc", "rt", "qemu-aarch64"):
+        return "there is no %s" % it
+    return tool.lacks()
+
+
+def main():
+    reads = parser("Build the programs for aarch64, and have qemu run them.")
+    reads.add_argument("--made", help="a directory of tools/unproved --aarch64")
+    arguments, counts = reads.parse_args(), Counts()
+    binary = program_of(arguments)
+    if why := lacks():
+        counts.skips("the program for aarch64: " + why)
+        return counts.close()
+    os.umask(0o022)
+    with tempfile.TemporaryDirectory(prefix="aarch64-") as top:
+        os.chmod(top, 0o755)
+        made = os.path.abspath(arguments.made or top + "/made")
+        how = {"stdout": subprocess.PIPE, "stderr": subprocess.STDOUT}
+        done = None if arguments.made else subprocess.run([TOP + "/tools/unproved", "--aarch64", made], **how)
+        if done and not counts.equal("tools/unproved --aarch64", done.returncode, 0, done.stdout.decode(errors="replace")):
+            return counts.close()
+        static = script(made + "/romtool-static", top + "/static")
+        for it in (static, script("-L %s %s/romtool" % (LIBRARIES, made), top + "/dynamic")):
+            counts.equal("what both programs do", answers(it, BOTH), answers(binary, BOTH))
+        kit(made + "/aarch64.o", top, counts)
+        of_cases(made + "/romtool-static", top, counts)
+        packs(static, counts)
+        of_seeds(static, counts)
+        for name, tests in SOME.items():
+            for test in tests:
+                of_script(name, test, static, counts)
+    return counts.close()
+
+
+if __name__ == "__main__":
+    sys.exit(main())
