@@ -6,6 +6,7 @@ ghost use Rattle.formats.specs.Format.{format_of};
 ghost use Rattle.plan_types.specs.Plans.{IsPlanOf};
 ghost use Rattle.romtool.specs.Sources.{opened_as};
 
+use crate::files::{Files, INPUT, Kept, kept_names, kept_states, say_not_taken};
 use crate::foreseen::{Warnings, foreseen};
 use crate::in_place::{Unknown, first_unplaced};
 use crate::origin::Origin;
@@ -20,7 +21,6 @@ use build_commands::{
 };
 use command_line::Build;
 use file_sources::FileSources;
-use image_build::StreamError;
 use image_file::{Padding, PlanImage, Unwritten};
 use image_stream::Sources;
 use layout_plan::{PlanError, plan};
@@ -30,19 +30,12 @@ use plan_types::{Format, Plan};
 use program_streams::Held;
 use rom_commands::{Ending, Status};
 use rom_fields::{Failed, Plain};
-use sentences::reasons::{
-    NOT_TAKEN, OWN_ERROR, OWN_INPUT, OWN_OUTPUT, PART_REPLACED, SOURCE_CHANGED, SOURCE_UNREAD,
-    SUM_DIFFERS,
-};
-use std::alloc::{AllocError, Global};
+use sentences::reasons::{OWN_ERROR, OWN_INPUT, OWN_OUTPUT, PART_REPLACED};
+use std::alloc::AllocError;
 use std::{fs, io};
 use system_files::{
-    Disk, FillError, Identity, KeepError, Late, Progress, Stamp, Target, Unchanged, first_changed,
-    has_changed, let_rest, own_output,
+    Disk, FillError, Identity, KeepError, Progress, Stamp, Target, Unchanged, let_rest, own_output,
 };
-
-/// The word for a manifest on standard input.
-const INPUT: &str = "-";
 
 /// The number of bytes of a source that are read at once, if there is memory for them.
 const LARGE: usize = 256 << 10;
@@ -109,141 +102,6 @@ fn planned(
             explained::other_misfits(reporter, format, origin, sizes, line);
             Err(status)
         }
-    }
-}
-
-/// The files that have to keep their states while an image is written: its sources, those that a
-/// scan read besides, and those among its sources that a scan read.
-#[derive(Clone, Copy)]
-struct Kept<'a> {
-    names: &'a [&'a str],
-    states: &'a [Stamp],
-    /// How many of the names a rule has: each once.
-    in_rule: usize,
-}
-
-/// The names of the files that have to keep their states: sources of these names, and files that
-/// were read.
-fn kept_names(
-    alloc: Global,
-    names: &[&str],
-    watched: &[Watched],
-) -> Result<Vec<String>, AllocError> {
-    let mut all = Vec::new(alloc);
-    for name in names {
-        all.push(String::from_str(alloc, name)?)?;
-    }
-    for file in watched.iter().filter(|file| !file.is_source) {
-        all.push(String::from_str(alloc, &file.name)?)?;
-    }
-    for file in watched.iter().filter(|file| file.is_source) {
-        all.push(String::from_str(alloc, &file.name)?)?;
-    }
-    Ok(all)
-}
-
-/// Their states, in the same order.
-fn kept_states(
-    alloc: Global,
-    stamps: &[Stamp],
-    watched: &[Watched],
-) -> Result<Vec<Stamp>, AllocError> {
-    let mut all = Vec::new(alloc);
-    all.extend_from_slice(stamps)?;
-    for file in watched.iter().filter(|file| !file.is_source) {
-        all.push(file.state)?;
-    }
-    for file in watched.iter().filter(|file| file.is_source) {
-        all.push(file.state)?;
-    }
-    Ok(all)
-}
-
-/// The sources of an image: their names, and the states that they and the manifest have to keep.
-#[derive(Clone, Copy)]
-struct Files<'a> {
-    origin: Origin<'a>,
-    manifest: TextFile,
-    names: &'a [&'a str],
-    stamps: &'a [Stamp],
-    kept: Kept<'a>,
-}
-
-impl<'a> Files<'a> {
-    /// The name by which the manifest is looked at again, and the state that it has to keep.
-    fn manifest_state(&self) -> (&'a str, Option<Stamp>) {
-        let name: &'a str = self.origin.name;
-        let name = if name == INPUT { reading::INPUT } else { name };
-        (name, self.manifest.stamp)
-    }
-}
-
-impl Files<'_> {
-    /// Reports that a source changed.
-    fn say_changed(&self, reporter: &Reporter<'_>, file: usize) -> Status {
-        let status = reporter.say(Ending::Changed);
-        reporter.explain_source(self.origin, file, &SOURCE_CHANGED);
-        status
-    }
-
-    /// Reports what changed while the image was written.
-    fn say_late(&self, reporter: &Reporter<'_>, late: Late) -> Status {
-        match late {
-            Late::Manifest => reporter.changed(self.origin.name.as_bytes(), &SOURCE_CHANGED),
-            Late::Source(file) if file < self.names.len() => self.say_changed(reporter, file),
-            Late::Source(file) => {
-                let name = self.kept.names.get(file).copied().unwrap_or("");
-                reporter.changed(name.as_bytes(), &SOURCE_CHANGED)
-            }
-        }
-    }
-
-    /// Reports that a source could not be read as it was: it changed, or the system refused it, for
-    /// this reason if there is one.
-    fn say_fault(&self, reporter: &Reporter<'_>, file: usize, reason: Option<io::Error>) -> Status {
-        let (Some(name), Some(stamp)) = (self.names.get(file), self.stamps.get(file)) else {
-            return reporter.say(Ending::Changed);
-        };
-        let reason = match has_changed(reporter.rt, name, stamp) {
-            Ok(true) => return self.say_changed(reporter, file),
-            Ok(false) => reason,
-            Err(e) => Some(e),
-        };
-        let status = reporter.say(Ending::File(name.as_bytes()));
-        match reason {
-            Some(e) => reporter.explain_error(self.origin, file, &e),
-            None => reporter.explain_source(self.origin, file, &SOURCE_UNREAD),
-        }
-        status
-    }
-
-    /// Reports why not all of an image was written: OUT or a source failed, for the system's
-    /// reason.
-    fn say_unwritten(
-        &self,
-        reporter: &Reporter<'_>,
-        e: StreamError,
-        reasons: (Option<io::Error>, Option<io::Error>),
-        out: &str,
-    ) -> Status {
-        let (of_source, of_out) = reasons;
-        match e {
-            StreamError::SizeDiffers { file } => self.say_fault(reporter, file, None),
-            StreamError::SourceFault { file } => self.say_fault(reporter, file, of_source),
-            StreamError::WriteFault => say_not_taken(reporter, of_out, out),
-            StreamError::Changed => match first_changed(reporter.rt, self.names, self.stamps) {
-                Some(file) => self.say_changed(reporter, file),
-                None => reporter.changed(out.as_bytes(), &SUM_DIFFERS),
-            },
-        }
-    }
-}
-
-/// Reports that OUT did not accept everything, for the system's reason if it gave one.
-fn say_not_taken(reporter: &Reporter<'_>, reason: Option<io::Error>, out: &str) -> Status {
-    match reason {
-        Some(e) => reporter.failed_by(out.as_bytes(), &e),
-        None => reporter.failed(out.as_bytes(), &NOT_TAKEN),
     }
 }
 
@@ -563,26 +421,28 @@ fn warnings_of<'m>(
 }
 
 /// Refuses a planned image in which Linux would not execute a program in place, if this is asked
-/// for.
+/// for. Returns the number of programs then.
 fn check_programs(
     reporter: &Reporter<'_>,
     asked: Build<'_>,
     plan: &Plan,
     files: Files<'_>,
-) -> Result<(), Status> {
+) -> Result<Option<u64>, Status> {
     if !asked.xip {
-        return Ok(());
+        return Ok(None);
     }
     let rt = reporter.rt;
     match first_unplaced(rt, plan, files.origin, files.names, files.stamps) {
-        Ok(None) => Ok(()),
-        Ok(Some(found)) => {
-            let out = &mut Plain::new(Held::new(rt.alloc(), io::writer(rt)));
-            let word = found.reason.word();
-            let status = printed(reporter, print_xip(out, found.line, word, found.path));
-            warned::explain_unplaced(reporter, files.origin, found);
-            Err(status)
-        }
+        Ok(found) => match found.unplaced {
+            None => Ok(Some(found.programs)),
+            Some(first) => {
+                let out = &mut Plain::new(Held::new(rt.alloc(), io::writer(rt)));
+                let word = first.reason.word();
+                let status = printed(reporter, print_xip(out, first.line, word, first.path));
+                warned::explain_unplaced(reporter, files.origin, first);
+                Err(status)
+            }
+        },
         Err(Unknown::Memory) => Err(reporter.say(Ending::Memory)),
         Err(Unknown::Source(file, e)) => Err(files.say_fault(reporter, file, Some(e))),
     }
@@ -634,10 +494,12 @@ fn write_files(
 
 /// An image that was built: the status, and the numbers of bytes of the image and of each source.
 #[derive(Drop)]
-struct Built {
+pub struct Built {
     status: Status,
-    len: u64,
-    sizes: Vec<u64>,
+    pub len: u64,
+    pub sizes: Vec<u64>,
+    /// How many programs it has, if that was looked at.
+    pub programs: Option<u64>,
 }
 
 /// What was kept, if there was memory for it. Reports that there was none.
@@ -700,12 +562,17 @@ fn build_from<'a>(
         stamps: &stamps,
         kept,
     };
-    check_programs(reporter, asked, &plan, files)?;
+    let programs = check_programs(reporter, asked, &plan, files)?;
     write_files(reporter, asked, &plan, files)?;
     let len = plan.image_len() as u64;
     let status = say_built(reporter, len);
     warned::explain(reporter, origin, &warnings, "warning: ");
-    Ok(Built { status, len, sizes })
+    Ok(Built {
+        status,
+        len,
+        sizes,
+        programs,
+    })
 }
 
 /// Reports that an image of this number of bytes was built.
@@ -809,7 +676,7 @@ pub fn build_scanned(
     };
     let found = (scanned.directories.as_slice(), scanned.watched.as_slice());
     let built = build_plain(reporter, asked, &manifest, found, text)?;
-    contents::explain(reporter, asked, &manifest, (built.len, &built.sizes));
+    contents::explain(reporter, asked, &manifest, &built);
     Ok(built.status)
 }
 

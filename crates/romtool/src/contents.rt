@@ -1,5 +1,5 @@
 //! The table of what an image has in it, for people.
-use crate::building::most_bytes;
+use crate::building::{Built, most_bytes};
 use crate::reporter::Reporter;
 use command_line::Build;
 use manifest::{Line, Manifest, Word};
@@ -87,16 +87,48 @@ fn add_row(text: &mut String, alloc: Global, bytes: u64, what: &str) -> Result<(
     text.push_str(&format!(in alloc; "{bytes:>14}  {what}\n")?)
 }
 
-/// The table of an image of this length.
+/// Adds what is executed in place of an image with this many programs.
+fn add_programs(text: &mut String, alloc: Global, programs: u64) -> Result<(), AllocError> {
+    let line = match programs {
+        0 => return text.push_str("no file is a program that is executed in place\n"),
+        1 => format!(in alloc;
+            "1 program is executed in place, except a last page that it shares\n"
+        )?,
+        _ => format!(in alloc;
+            "{programs} programs are executed in place, except last pages that they share\n"
+        )?,
+    };
+    text.push_str(&line)
+}
+
+/// Adds the largest files.
+fn add_largest(
+    text: &mut String,
+    alloc: Global,
+    manifest: &Manifest,
+    sizes: &[u64],
+) -> Result<(), AllocError> {
+    if sizes.is_empty() {
+        return Ok(());
+    }
+    text.push_str("the largest files:\n")?;
+    for (size, line) in by_size(alloc, manifest, sizes)?.iter().take(LARGEST) {
+        let path = shown(alloc, line.path.as_bytes())?;
+        add_row(text, alloc, *size, &path)?;
+    }
+    Ok(())
+}
+
+/// The table of an image that was built.
 fn table(
     alloc: Global,
     asked: Build<'_>,
     manifest: &Manifest,
-    len: u64,
-    sizes: &[u64],
+    built: &Built,
 ) -> Result<String, AllocError> {
     let (out, format) = (escaped(alloc, asked.out.as_bytes())?, asked.format.name());
     let counts = Counts::of(manifest).row(alloc)?;
+    let (len, sizes) = (built.len, built.sizes.as_slice());
     let contents = sizes
         .iter()
         .fold(0, |sum: u64, size| sum.saturating_add(*size));
@@ -112,27 +144,17 @@ fn table(
     if let Some(most) = most_bytes(asked) {
         add_row(&mut text, alloc, most.saturating_sub(len), "free")?;
     }
-    if asked.xip {
-        text.push_str("each program is executed in place, except a last page that it shares\n")?;
+    if let Some(programs) = built.programs {
+        add_programs(&mut text, alloc, programs)?;
     }
-    text.push_str("the largest files:\n")?;
-    for (size, line) in by_size(alloc, manifest, sizes)?.iter().take(LARGEST) {
-        let path = shown(alloc, line.path.as_bytes())?;
-        add_row(&mut text, alloc, *size, &path)?;
-    }
+    add_largest(&mut text, alloc, manifest, sizes)?;
     Ok(text)
 }
 
-/// Explains by a table what an image of a manifest has in it. Its length and the sizes of its
-/// sources are given.
-pub fn explain(
-    reporter: &Reporter<'_>,
-    asked: Build<'_>,
-    manifest: &Manifest,
-    (len, sizes): (u64, &[u64]),
-) {
+/// Explains by a table what an image of a manifest has in it.
+pub fn explain(reporter: &Reporter<'_>, asked: Build<'_>, manifest: &Manifest, built: &Built) {
     if reporter.is_explained()
-        && let Ok(text) = table(reporter.rt.alloc(), asked, manifest, len, sizes)
+        && let Ok(text) = table(reporter.rt.alloc(), asked, manifest, built)
     {
         reporter.put(text.as_bytes());
     }

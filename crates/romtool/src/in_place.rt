@@ -24,6 +24,14 @@ pub struct Unplaced<'m> {
     pub reason: Reason,
 }
 
+/// The first program of an image that would not be executed in place, if there is one, and how many
+/// programs were found.
+#[derive(Clone, Copy)]
+pub struct Found<'m> {
+    pub unplaced: Option<Unplaced<'m>>,
+    pub programs: u64,
+}
+
 /// Why it is not known which programs would be executed in place.
 #[derive(Drop)]
 pub enum Unknown {
@@ -69,52 +77,56 @@ fn elf_at(rt: &HostRuntime, name: &str, stamp: &Stamp) -> io::Result<Option<Vec<
     Ok(Some(bytes))
 }
 
-/// Why a program would not be executed in place, if its contents begin at an offset of the image.
-fn reason_at(is_romfs: bool, place: u32, bytes: &[u8]) -> Option<Reason> {
+/// Returns what Linux does with a program whose contents begin at an offset of the image.
+fn verdict_of(is_romfs: bool, place: u32, bytes: &[u8]) -> Option<Verdict> {
     if bytes.len() as u64 > MOST {
         return None;
     }
-    match verdict_at(is_romfs, u64::from(place), bytes) {
-        Some(Verdict::Not { reason, .. }) => Some(reason),
-        _ => None,
-    }
+    verdict_at(is_romfs, u64::from(place), bytes)
 }
 
 /// Returns the first line of a program that Linux would not execute in place, if the image is at
-/// the front of a page of the flash. The sources have these names and states.
+/// the front of a page of the flash, and the number of programs up to it. The sources have these
+/// names and states.
 pub fn first_unplaced<'m>(
     rt: &HostRuntime,
     plan: &Plan,
     origin: Origin<'m>,
     names: &[&str],
     stamps: &[Stamp],
-) -> Result<Option<Unplaced<'m>>, Unknown> {
+) -> Result<Found<'m>, Unknown> {
     let Ok(places) = places_of(rt.alloc(), plan, names.len()) else {
         return Err(Unknown::Memory);
     };
     let is_romfs = plan.format().order().is_none();
     let files = origin.manifest.lines().iter();
     let files = files.filter(|line| matches!(line.word, Word::File));
+    let mut programs = 0u64;
     for (file, line) in files.enumerate() {
         let (Some(name), Some(stamp), Some(place)) = (
             names.get(file),
             stamps.get(file),
             places.get(file),
         ) else {
-            return Ok(None);
+            break;
         };
-        let reason = match elf_at(rt, name, stamp) {
-            Ok(Some(bytes)) => reason_at(is_romfs, *place, &bytes),
+        let verdict = match elf_at(rt, name, stamp) {
+            Ok(Some(bytes)) => verdict_of(is_romfs, *place, &bytes),
             Ok(None) => None,
             Err(e) => return Err(Unknown::Source(file, e)),
         };
-        if let Some(reason) = reason {
-            return Ok(Some(Unplaced {
+        programs = programs.saturating_add(u64::from(verdict.is_some()));
+        if let Some(Verdict::Not { reason, .. }) = verdict {
+            let unplaced = Some(Unplaced {
                 line: line.number,
                 path: line.path.as_bytes(),
                 reason,
-            }));
+            });
+            return Ok(Found { unplaced, programs });
         }
     }
-    Ok(None)
+    Ok(Found {
+        unplaced: None,
+        programs,
+    })
 }

@@ -32,6 +32,7 @@ mod explained;
 mod extracting;
 mod extraction;
 mod faked;
+mod files;
 mod foreseen;
 mod in_place;
 mod inspect;

@@ -29,22 +29,29 @@ const VARIABLE: &str = "ROMTOOL_EXPLAIN";
 /// Linux's number of the error that a pipe has no reader any more.
 const NO_READER: i32 = 32;
 
-/// Whether a word up to the first `--` asks to explain.
+/// Whether the words up to the first `--` ask to explain, or are those of `pack`, which explains
+/// without being asked, unless it has to be quiet.
 fn has_explain(rt: &HostRuntime) -> bool {
+    let (mut is_pack, mut is_quiet) = (false, false);
     for number in 1..usize::MAX {
         let mut word = [0; EXPLAIN_LEN];
         match rt.arg(number, &mut word) {
             Ok(len) => {
                 let word = word.get(..len).unwrap_or(&[]);
-                if is_explain(word) || word == b"--".as_slice() {
-                    return is_explain(word);
+                if is_explain(word) {
+                    return true;
                 }
+                if word == b"--".as_slice() {
+                    break;
+                }
+                is_pack = is_pack || number == 1 && word == b"pack".as_slice();
+                is_quiet = is_quiet || word == b"--quiet".as_slice();
             }
             Err(FillError::TooLong) => {}
-            Err(FillError::NotPresent) => return false,
+            Err(FillError::NotPresent) => break,
         }
     }
-    false
+    is_pack && !is_quiet
 }
 
 /// Whether the environment asks to explain.

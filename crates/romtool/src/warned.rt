@@ -82,7 +82,7 @@ fn reason_sentence(reason: Reason) -> &'static str {
     match reason {
         Reason::Unaligned =>
             "Linux copies a program whose first byte is not at the front of a page; \
-              give the line ALIGN 4096",
+              give it an ALIGN of 4096 (--align 4096 of a scan)",
         Reason::Scattered => "Linux copies a program that is not in one piece",
         Reason::Unloadable => "Linux does not load one of its segments; link it for pages of 4,096 \
               bytes",
@@ -95,7 +95,10 @@ fn reason_sentence(reason: Reason) -> &'static str {
 /// Explains why a program would not be executed in place.
 pub fn explain_unplaced(reporter: &Reporter<'_>, origin: Origin<'_>, found: Unplaced<'_>) {
     let (alloc, line) = (reporter.rt.alloc(), found.line);
-    if let Ok(place) = format!(in alloc; "{}:{line}", origin.name) {
+    if !origin.directories.is_empty() {
+        // the manifest of a scan is in no file
+        reporter.explain(found.path, &reason_sentence(found.reason));
+    } else if let Ok(place) = format!(in alloc; "{}:{line}", origin.name) {
         reporter.explain(place.as_bytes(), &reason_sentence(found.reason));
     }
 }
