@@ -120,6 +120,10 @@ def words_for_people(tester):
     table += "the largest files:\n" + "".join(f"{n:>14}  {what}\n" for n, what in [(5000, "/large"), (6, "/etc/motd")])
     tester.is_same("the table", shown, (f"ok {length}\n", table, 0))
     tester.is_same("the image is accepted", tester.run(["check", "out"])[2], 0)
+    said = tester.run(["pack", "--size", "1.5M", "cramfs", "app", "out"])
+    tester.is_same("a wrong N", (said[0], said[1].splitlines()[0], "N is a number" in said[1], said[2]), ("", "usage", True, 2))
+    tester.is_same("--quiet", tester.run(["pack", "--size", "1.5M", "--quiet", "cramfs", "app", "out"]), ("", "usage\n", 2))
+    programs(tester)
     said = tester.run(["pack", "--quiet", "--max-size", "1K", "cramfs", "app", "out"])
     tester.is_same("--quiet has the lines of the protocol", (said[0][:5], said[1:]), ("size ", ("", 1)))
     tester.is_same("words without --explain", "more than 1024" in tester.run(["pack", "--max-size", "1K", "cramfs", "app", "out"])[1], True)
@@ -150,6 +154,25 @@ def refused(tester):
     tester.is_same("no parts are left", [it for it in os.listdir(room) if it.endswith(".part")], [])
     tester.is_same("an excluded OUT", tester.run(["pack", "--quiet", "--exclude", "/x", "romfs", "small", "small/x"])[2], 0)
     os.remove(f"{room}/small/x")
+
+
+def programs(tester):
+    """With --xip the table says how many programs are executed in place. Without files it has no largest ones."""
+    none, program = "no file is a program that is executed in place\n", bytes_in(tester.program)
+    for number, (files, line) in enumerate((
+        ({"script": b"#!/bin/sh"}, none), ({}, none),
+        ({"a": program}, "1 program is executed in place, except a last page that it shares\n"),
+        ({"a": program, "b": program, "c": b"c"}, "2 programs are executed in place, except last pages that they share\n"),
+    )):  # fmt: skip
+        top = f"{tester.room}/programs-{number}"
+        os.mkdir(top)
+        for name, held in files.items():
+            put(f"{top}/{name}", held, 0o755)
+        said = tester.run(["pack", "--align", "4096", "--xip", "cramfs", top, "out"])
+        tester.is_same(line.strip(), (line in said[1], "the largest files:" in said[1], said[2]), (True, bool(files), 0))
+    out, words, status = tester.run(["pack", "--xip", "cramfs", top, "out"])
+    why = "romtool: /a: Linux copies a program whose first byte is not at the front of a page; give it an ALIGN of 4096 (--align 4096 "
+    tester.is_same("a program that is not aligned", (out.split(" ")[2:], why in words, status), (["unaligned", "/a\n"], True, 1))
 
 
 def rebuilds(tester):
