@@ -23,8 +23,8 @@ pub struct Kept<'a> {
     pub in_rule: usize,
 }
 
-/// Returns the names of the files that have to keep their states: sources of these names, and files that
-/// were read.
+/// Returns the names of the files that have to keep their states: sources of these names, and files
+/// that were read.
 pub fn kept_names(
     alloc: Global,
     names: &[&str],
@@ -71,7 +71,8 @@ pub struct Files<'a> {
 }
 
 impl<'a> Files<'a> {
-    /// Returns the name by which the manifest is looked at again, and the state that it has to keep.
+    /// Returns the name by which the manifest is looked at again, and the state that it has to
+    /// keep.
     pub fn manifest_state(&self) -> (&'a str, Option<Stamp>) {
         let name: &'a str = self.origin.name;
         let name = if name == INPUT { reading::INPUT } else { name };
