@@ -4,12 +4,11 @@
     aarch64.py [--binary PATH] [--made DIR]
 
 tools/unproved --aarch64 builds both, unless DIR has them. The static one makes each run of the cases (see run.py); a case that
-limits the memory limits that of the emulated program. It packs random directories as pack.py does, its images of random manifests
-are compared with `map`, `info`, `digest` and `extents` as the scripts of these names do, and it passes the tests of SOME, of the
-scripts that have the system interfere: links as OUT, disks that are full, directories of others. The other one answers as
-PATH does what BOTH asks. c/aarch64.c answers as the kit's archives do (c/kit.c). What is left out: tests that trace calls, since
-those of the emulator are seen, too, and fakeroot, which does not reach a program in the emulator. The last line is `N passed,
-M failed`, with `, K skipped` if a tool is missing.
+limits the memory limits that of the emulated program. It packs random directories as pack.py does, passes the tests in pytest
+on images of a few random manifests, and those of SOME, of the scripts that have the system interfere: links as OUT, disks that
+are full, directories of others. The other one answers as PATH does what BOTH asks. c/aarch64.c answers as the kit's archives do
+(c/kit.c). What is left out: tests that trace calls, since those of the emulator are seen, too, and fakeroot, which does not
+reach a program in the emulator. The last line is `N passed, M failed`, with `, K skipped` if a tool is missing.
 """
 
 import errno
@@ -20,11 +19,7 @@ import sys
 import tempfile
 
 import c
-import digest
-import extents
 import files
-import info
-import map as mapped
 import pack
 import rooms
 import run
@@ -36,7 +31,7 @@ sys.path.insert(0, os.path.join(TOP, "tools"))
 import unproved_aarch64 as tool  # noqa: E402
 
 LIBRARIES = "/usr/aarch64-linux-gnu"
-SEEDS, PACKED = range(1, 4), range(1, 11)
+SEEDS, PACKED = 3, range(1, 11)
 # tests of other scripts, by their names
 SOME = {
     "extract_into": ("",),
@@ -103,36 +98,12 @@ def packs(program, counts):
             pack.one_directory(tester, seed, random.Random(seed))
 
 
-def extents_of(program, seed, folder):
-    """Compares where the bytes of an image are with another reader of it."""
-    image, chance = extents.built(program, seed, folder)
-    extents.compare(program, image, chance.choice(extents.BASES), folder, chance, False)
-
-
-def of_seeds(program, counts):
-    """Builds images of random manifests, and compares what is printed of them."""
-    for seed in SEEDS:
-        with tempfile.TemporaryDirectory(prefix="romtool-") as folder:
-            counts.result("info: seed %d" % seed, info.of_manifest(program, seed, folder))
-            for name, wrong, test in (
-                ("map", mapped.Wrong, lambda: mapped.of_manifest(program, seed, folder)),
-                ("digest", digest.Wrong, lambda: digest.of_manifest(program, seed)),
-                ("extents", extents.Wrong, lambda: extents_of(program, seed, folder)),
-            ):
-                try:
-                    test()
-                    counts.passes()
-                except wrong as why:
-                    counts.fails("%s: seed %d" % (name, seed), [str(why)])
-
-
-def of_script(name, test, program, counts):
-    """Has another script make its tests of this name, and adds its counts."""
-    words = [sys.executable, "%s/%s.py" % (HERE, name), "--binary", program, "--name", test]
+def counted(name, words, counts):
+    """Adds the counts of other tests."""
     said = subprocess.run(words, stdout=subprocess.PIPE, stderr=subprocess.STDOUT, text=True, errors="replace").stdout
     found = [int(it or 0) for it in (rooms.LAST.findall(said) or [(0, 1, 0)])[-1]]
     counts.passed, counts.failed, counts.skipped = (a + b for a, b in zip((counts.passed, counts.failed, counts.skipped), found))
-    print("".join(said.splitlines(True)[:-1]) + ("FAILED %s: %s\n" % (name, test)) * bool(found[1]), end="")
+    print("".join(said.splitlines(True)[:-1]) + ("FAILED %s\n" % name) * bool(found[1]), end="")
 
 
 def lacks():
@@ -164,10 +135,11 @@ def main():
         kit(made + "/aarch64.o", top, counts)
         of_cases(made + "/romtool-static", top, counts)
         packs(static, counts)
-        of_seeds(static, counts)
+        counted("images", ["sh", HERE + "/pytest.sh", "-k", "seed", "--seeds", str(SEEDS), "--binary", static], counts)
         for name, tests in SOME.items():
             for test in tests:
-                of_script(name, test, static, counts)
+                words = [sys.executable, "%s/%s.py" % (HERE, name), "--binary", static, "--name", test]
+                counted("%s: %s" % (name, test), words, counts)
     return counts.close()
 
 

@@ -36,7 +36,7 @@ import sys
 import tempfile
 
 import explain
-import extents
+import formats
 import run
 from harness import HERE, SECONDS, Counts, missing, parser, program_of
 
@@ -328,7 +328,7 @@ def lists_of(form, image):
     """Returns the names of each directory of BUDGETS in the order of the image's lists, as another reader has them."""
     lists = {}
     if form == "romfs":
-        paths = [it[3].decode() for it in extents.romfs(image)[1] if it[2] == "header" and it[3] != b"/"]
+        paths = [it[3].decode() for it in formats.romfs(image) if it[2] == "header" and it[3] != b"/"]
     else:  # a cramfs list rises by the bytes of its names
         paths = sorted(line.split()[1] for line in BUDGETS.decode().splitlines()[1:])
     for path in paths:

@@ -34,7 +34,7 @@ import time
 import zlib
 
 import c
-import extents
+import formats
 import fuse
 from files import bytes_in, put, repository_text, wait_until
 from harness import SECONDS, TOP, Counts, missing, parser, program_of
@@ -456,7 +456,7 @@ def changed(image, form, dice):
     for _ in range(dice.randrange(1, 4)):
         held[dice.randrange(8, min(len(held), dice.choice((100, 300, 600, len(held)))))] = dice.choice((0, 1, 255, dice.randrange(256)))
     if form == "romfs":
-        return with_sums(bytes(held), [it[0] for it in extents.romfs(image)[1] if it[2] == "header"])
+        return with_sums(bytes(held), [it[0] for it in formats.romfs(image) if it[2] == "header"])
     return with_any_crc(bytes(held), "<" if form == "cramfs" else ">")
 
 
