@@ -326,6 +326,9 @@ def make_at_once(binary):
         "\n".join([*lines, *("$(call romtool_image,out/%s,%s,'the root',--all-root)" % (it, it) for it in FORMATS), ""]).encode(),
     )
     yield from at_once(binary, top, ["make", "-j4", "all", "out"])
+    there = sorted(os.listdir(top + "/out")), ".manifest" in os.listdir(top)
+    if there != (sorted(it + more for it in FORMATS for more in ("", ".manifest")), False):
+        yield "the manifests: %r" % (there,)
 
 
 @needs_tools("cmake", "ninja")

@@ -26,5 +26,5 @@ $(1): $(2) romtool_always
 	if cmp -s $$@.new $$@; then rm $$@.new; else mv $$@.new $$@ && printf '%s\n' "$$$$said"; fi
 romtool_made += $(1) $(1).manifest
 endef
-romtool_image = $(eval $(call romtool_rule,$(strip $(1)),,pack $(4) --manifest $$$$@.manifest $(2) $(3)))
+romtool_image = $(eval $(call romtool_rule,$(strip $(1)),,pack $(4) --manifest $$@.manifest $(2) $(3)))
 romtool_manifest = $(eval $(call romtool_rule,$(strip $(1)),$(3),build $(4) $(2) $(3)))
