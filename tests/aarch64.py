@@ -80,12 +80,15 @@ def kit(part, top, counts):
 
 def of_cases(static, top, counts):
     """Makes each run of each case. Those with a limit of memory are made in an address space of that size."""
-    for topic in run.topics():
-        for case in run.load(topic):
-            for limit in sorted({it.get("memory", 0) for it in case["runs"]}):
-                runs = [{**it, "memory": None} for it in case["runs"] if it.get("memory", 0) == limit]
-                words = "-R %d %s" % (limit // 65536 * 65536, static)
-                run.done_case(script(words, top + "/case"), "%s: %s" % (topic, case["name"]), {**case, "runs": runs}, False, counts)
+    for place, case in run.named_cases():
+        if case.get("no_root") and rooms.IS_ROOT:
+            counts.skips("%s: root runs it" % place)
+            continue
+        for limit in sorted({it.get("memory", 0) for it in case["runs"]}):
+            runs = [{**it, "memory": None} for it in case["runs"] if it.get("memory", 0) == limit]
+            program = script("-R %d %s" % (limit // 65536 * 65536, static), top + "/case")
+            with tempfile.TemporaryDirectory(prefix="romtool-") as room:
+                counts.result(place, run.wrong_run(program, {**case, "runs": runs}, room))
 
 
 def packs(program, counts):

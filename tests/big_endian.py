@@ -1,23 +1,15 @@
-#!/usr/bin/env python3
-"""Runs romtool on the cramfs images of the cases once more, turned into the other byte order.
+"""Turns cramfs images, and cases with such images (see run.py), into the other byte order.
 
-    big_endian.py [--binary PATH] [--name TEXT] [--keep]
-
-Each little-endian image of a case (see run.py) is turned into a big-endian one: all words of the
-superblock, of the inodes and of the block pointers with the same fields, packed and stored in the
-other order. The output has to be the same, except that FORMAT is `cramfs-be`. If the image has the
-CRC-32 of its bytes, the turned one has too. Cases without such an image are skipped, and so are the
-runs on an image in which one word is read in two ways, as a pointer and as part of a name: that has no
-like in the other order.
-The last line is `N passed, M failed`, with `, K skipped` if cases were skipped.
+All words of the superblock, of the inodes and of the block pointers of a little-endian image get the same fields, packed and stored
+in the other order. What romtool prints of it has to be the same, except that FORMAT is `cramfs-be`. If the image has the CRC-32 of
+its bytes, the turned one has too. An image in which one word is read in two ways, as a pointer and as part of a name, has no like
+in the other order, and runs on it are left out.
 """
 
 import struct
-import sys
 import zlib
 
 import run
-from harness import Counts, parser, program_of
 from images import BLOCK, WITH_SUM
 
 MAGIC = struct.pack("<I", 0x28CD3D45)
@@ -110,49 +102,30 @@ class Turned:
                 struct.pack_into(">I", self.new, CRC, crc_of(bytes(self.new[:size])))
 
 
-def turned_case(case):
-    """Returns the case with its little-endian images turned, or None if it has none."""
-    files, left_out, turned = {}, set(), False
+def images_of(case):
+    """Yields the little-endian images of a case, by their names."""
     for name, told in case.get("files", {}).items():
-        sparse = isinstance(told, dict) and "sparse" in told
-        image = b"" if sparse else run.bytes_of(told)
-        if image.startswith(MAGIC):
-            other, turned = Turned(image), True
-            told = {"hex": bytes(other.new).hex()}
-            if not other.one_way:
-                left_out.add(name)
-        files[name] = told
-    if not turned:
-        return None
-    runs = []
-    for old in case["runs"]:
-        if left_out.intersection(word for word in old["words"] if isinstance(word, str)):
-            continue
-        new = dict(old)
-        if "out" in old:
-            out = run.bytes_of(old["out"])
-            for told, other in ((b"ok cramfs ", b"ok cramfs-be "), (b"format cramfs\n", b"format cramfs-be\n")):
-                out = out.replace(told, other)
-            new["out"] = {"hex": out.hex()}
-        runs.append(new)
+        if isinstance(told, dict) and not {"sparse", "romfs"} & set(told):
+            image = run.bytes_of(told)
+            if image.startswith(MAGIC):
+                yield name, image
+
+
+def is_turned(case):
+    """Returns whether a case has a little-endian image."""
+    return any(images_of(case))
+
+
+def other_line(out):
+    """Returns what is printed of an image in the other byte order."""
+    return out.replace(b"ok cramfs ", b"ok cramfs-be ").replace(b"format cramfs\n", b"format cramfs-be\n")
+
+
+def turned_case(case):
+    """Returns the case with its little-endian images turned."""
+    turned = {name: Turned(image) for name, image in images_of(case)}
+    left_out = {name for name, it in turned.items() if not it.one_way}
+    files = {**case["files"], **{name: {"hex": it.new.hex()} for name, it in turned.items()}}
+    runs = [it for it in case["runs"] if not left_out.intersection(word for word in it["words"] if isinstance(word, str))]
+    runs = [{**it, "out": {"hex": other_line(run.bytes_of(it["out"])).hex()}} if "out" in it else it for it in runs]
     return {**case, "files": files, "runs": runs}
-
-
-def main():
-    reader = parser("Run romtool on the cramfs images of the cases, turned into the other byte order.")
-    reader.add_argument("--name", default="", help="the cases alone whose name has this text")
-    reader.add_argument("--keep", action="store_true", help="leave the folders of the failed cases")
-    arguments = reader.parse_args()
-    binary, counts = program_of(arguments), Counts()
-    for topic in run.topics():
-        for case in run.load(topic):
-            if arguments.name not in case["name"]:
-                continue
-            turned = turned_case(case)
-            if turned:
-                run.done_case(binary, "%s: %s, turned" % (topic, case["name"]), turned, arguments.keep, counts)
-    return counts.close()
-
-
-if __name__ == "__main__":
-    sys.exit(main())

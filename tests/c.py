@@ -221,19 +221,22 @@ def is_asked(told):
     return isinstance(words[1], str) and not words[1].startswith("/")
 
 
-def cases(binary, answers, counts):
-    """All runs of cases that the C program can be asked, once for each image."""
-    for topic in TOPICS:
-        for case in run.load(topic):
-            asked = [told for told in case["runs"] if is_asked(told)]
-            if not asked:
-                continue
+def asked_of_cases(subcommands=("check", "list", "serve")):
+    """Yields each run of a case that the C program can be asked: the name of the case, its directory, and the run's words and lines."""
+    for place, case in run.named_cases(TOPICS):
+        asked = [told for told in case["runs"] if is_asked(told) and told["words"][0] in subcommands]
+        if asked:
             with tempfile.TemporaryDirectory(prefix="romtool-") as top:
                 run.lay_out(case, top)
                 for told in asked:
                     if os.path.isfile(os.path.join(top, told["words"][1])):
-                        lines = run.bytes_of(told.get("in", ""))
-                        answered(binary, answers, told["words"], lines, top, "%s: %s" % (topic, case["name"]), counts)
+                        yield place, top, told["words"], run.bytes_of(told.get("in", ""))
+
+
+def cases(binary, answers, counts):
+    """All runs of cases that the C program can be asked."""
+    for place, top, words, lines in asked_of_cases():
+        answered(binary, answers, words, lines, top, place, counts)
 
 
 def build_all(binary, top, counts):
@@ -456,12 +459,11 @@ def on_aarch64(binary, top, numbers, counts):
 def images(top):
     """Returns the images of the cases, each once, in files of a directory; and the files' names."""
     held = {}
-    for topic in TOPICS:
-        for case in run.load(topic):
-            files = case.get("files", {})
-            for told in case["runs"] if not case.get("large") else []:
-                if is_asked(told) and told["words"][1] in files and "sparse" not in files[told["words"][1]]:
-                    held.setdefault(run.bytes_of(files[told["words"][1]]), None)
+    for _, case in run.named_cases(TOPICS):
+        files = case.get("files", {})
+        for told in case["runs"] if not case.get("large") else []:
+            if is_asked(told) and told["words"][1] in files and "sparse" not in files[told["words"][1]]:
+                held.setdefault(run.bytes_of(files[told["words"][1]]), None)
     found = []
     for at, image in enumerate(it for it in held if len(it) < 1 << 20):
         found.append("%04d" % at)

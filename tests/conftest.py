@@ -11,6 +11,7 @@ From another directory name this one, or a file of it: `pytest . -k digest --bin
 A test with the parameter `image` is run on each image of the cases (see run.py) that `check` accepts, and on those of random
 manifests (see manifests.py): `test_facts[seed 17]`. One with the parameter `faulty` is run on the files of the cases that it
 refuses. The mark `images` says which images a test has, if not these. The tests are sorted by their images, so each is made once.
+One with the parameter `case` is run on each case, or on those that its mark `cases` chooses: `test_plain[serve/hello]`.
 """
 
 import functools
@@ -23,7 +24,7 @@ import manifests
 import pytest
 from harness import PROGRAM, missing
 from romtool import answer, entries_of, pieces_of, run
-from run import files_of_cases
+from run import files_of_cases, named_cases
 
 MOST = 2**20  # bytes of an image of the cases
 SEEDS = 120  # how many random manifests
@@ -38,6 +39,7 @@ def pytest_addoption(parser):
 
 def pytest_configure(config):
     config.addinivalue_line("markers", "images(cases, seeds, step, also): which images the test has: see Images.of_test")
+    config.addinivalue_line("markers", "cases(only): the test has only the cases of which this function is true")
     config.addinivalue_line("markers", "needs(*tools): the test is skipped if one of these programs is missing")
 
 
@@ -188,8 +190,12 @@ def images_of(config):
 
 
 def pytest_generate_tests(metafunc):
-    """Runs a test on each of its images."""
+    """Runs a test on each of its images or cases."""
     images = images_of(metafunc.config)
+    if "case" in metafunc.fixturenames:
+        mark = metafunc.definition.get_closest_marker("cases")
+        cases = {name: case for name, case in named_cases() if not mark or mark.kwargs["only"](case)}
+        metafunc.parametrize("case", cases.values(), ids=cases.keys())
     if "image" in metafunc.fixturenames:
         mark = metafunc.definition.get_closest_marker("images")
         metafunc.parametrize("image", images.of_test(**mark.kwargs if mark else {}), indirect=True)

@@ -21,7 +21,6 @@ The last line is `N passed, M failed`, with `, K skipped`.
 """
 
 import glob
-import json
 import os
 import re
 import shutil
@@ -32,6 +31,7 @@ import tempfile
 from files import repository_text as text_of
 from harness import HERE, SECONDS, Counts, parser, program_of
 from rooms import NOBODY
+from run import load
 
 TOP = os.path.dirname(HERE)
 sys.path.insert(0, os.path.join(TOP, "tools"))
@@ -257,8 +257,7 @@ def phases_with(number):
 
 def faults_of_cases(format):
     """Returns the numbers and names of the faults that the cases of a format expect: its own, and those of `exact` that begin with it."""
-    cases = json.loads(text_of("tests/cases/%s.json" % format))
-    cases += [it for it in json.loads(text_of("tests/cases/exact.json")) if it["name"].startswith(format + "-")]
+    cases = load(format) + [it for it in load("exact") if it["name"].startswith(format + "-")]
     lines = [str(it.get("out")) for case in cases for it in case["runs"]]
     return {(int(told[1]), told[2]) for told in (re.match(r"fault (\d+) (\w+) at ", line) for line in lines) if told}
 

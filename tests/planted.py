@@ -4,8 +4,9 @@
     planted.py [--binary PATH] [--name TEXT]
 
 An error is a script around the program that changes what a command printed (the file $out), what it said on standard error
-(the file $err), its status, or what it wrote. The tests of one file are run on it until one fails. No part of ./test runs
-this: run it after a change of these tests. The last line is `N passed, M failed`.
+(the file $err), its status, or what it wrote; or a C program that does something else before it becomes the program. The tests of
+one file are run on it until one fails. A program that changes nothing is planted first, in which no test may find an error. No part
+of ./test runs this: run it after a change of these tests. The last line is `N passed, M failed`.
 """
 
 import subprocess
@@ -18,7 +19,7 @@ from harness import HERE, Counts, parser, program_of
 SCRIPT = """#!/bin/sh
 romtool=%s
 case "$*" in
-%s) ;;
+%s) [ -p /dev/fd/1 ] || exec $romtool "$@" ;;
 *) exec $romtool "$@" ;;
 esac
 top=$(mktemp -d) && out=$top/out && err=$top/err
@@ -27,10 +28,62 @@ status=$?
 %s
 cat $out; cat $err >&2; rm -r $top; exit $status
 """
+PROGRAM = """#include <stdio.h>
+#include <stdlib.h>
+#include <sys/resource.h>
+#include <unistd.h>
+int main(int count, char **words) {
+    struct rlimit limit;
+    if (getenv("LD_PRELOAD") && !malloc(1)) { %s }
+    if (!getrlimit(RLIMIT_AS, &limit) && limit.rlim_cur >> 10 == 4000) { %s }
+    unsetenv("LD_PRELOAD");
+    return execv("%s", words);
+}
+"""
+MEMORY = 'fputs("memory\\n", stderr); return 3;'
 TO_OUTPUT = "cat $err >>$out; : >$err"
 SWAPPED = "sed -i '2{h;d};3{G}' $out"
-# the file of tests -> the words of the program, and what is changed
+# the file of tests, or a test in it -> the words of the program, and what is changed
 ERRORS = {
+    "cases::test_plain": (
+        ("info *", "sed -i 's/^depth 1/depth 2/' $out"),
+        ("which *", "truncate -s -1 $out"),
+        ("digest *", "echo more >>$err"),
+        ("digest *", ": >$err"),
+        ("verify *", "[ $status = 1 ] && status=0"),
+        ("build cramfs manifest out", "printf x | dd of=$4 bs=1 seek=40 conv=notrunc 2>/dev/null"),
+        ("build romfs manifest out", "[ $status = 1 ] && [ ! -e $4 ] && : >$4"),
+        ("serve *", "cat >/dev/null"),
+        ("space *", "sed -i 's/ ENOENT/ ENOTDIR/' $out"),
+        ("check out", "echo fault >$err"),
+    ),
+    "cases::test_turned": (
+        ("check *", "sed -i 's/cramfs-be/cramfs/' $out"),
+        ("list *", "sed -i '$d' $out"),
+        ("check *", "sed -i 's/ at 4$/ at 8/' $out"),
+        ("check *", "[ $status = 1 ] && status=0"),
+    ),
+    "cases::test_explained": (
+        ("--explain info *", "sed -i /^romtool:/d $err"),
+        ("--explain info *", "sed -i '/^depth/s/$/0/' $out"),
+        ("--explain space *", "sed -i 's/stdin:1:/stdin:2:/' $err"),
+        ("--explain build *", "sed -i 's/ ([0-9]*): / (77): /' $err"),
+        ("--explain build *", "sed -i '1d' $err"),
+        ("--explain scan *", "sed -i 's/goes with/needs/' $err"),
+        ("--explain fly", "sed -i '/^error/d' $err"),
+        ("--explain digest *", "echo romtool: image: hello >>$err"),
+        ("--explain verify *", "[ $status = 1 ] && status=0"),
+    ),
+    "refusals": (
+        ("memory", "return 3;"),
+        ("memory", 'fputs("memory\\n", stderr); return 1;'),
+        ("memory", 'fputs("memory\\n", stderr); puts("ok romfs"); return 3;'),
+        ("memory", 'puts("memory"); return 3;'),
+        ("memory", 'fputs("no memory\\n", stderr); return 3;'),
+        ("memory", "abort();"),
+        ("limit", "return 3;"),
+        ("limit", 'puts("fault"); return 1;'),
+    ),
     "manifests": (
         ("list *", "sed -i 3d $out"),
         ("list *", SWAPPED),
@@ -125,10 +178,21 @@ ERRORS = {
 }
 
 
-def is_found(name, program):
+def is_found(name, program, *more):
     """Returns whether a test of a file fails on a program."""
-    words = [f"{HERE}/pytest.sh", f"{HERE}/test_{name}.py", "-x", "-p", "no:cacheprovider", "--binary", program]
-    return subprocess.run(["sh", *words], stdout=subprocess.PIPE).returncode == 1
+    file, *tests = name.split("::")
+    words = [*more, "::".join([f"{HERE}/test_{file}.py", *tests]), "-x", "-p", "no:cacheprovider", "--binary", program]
+    return subprocess.run(["sh", f"{HERE}/pytest.sh", *words], stdout=subprocess.PIPE).returncode in (1, 2)
+
+
+def plant(binary, name, words, change, path):
+    """Makes a program with an error."""
+    if name != "refusals":
+        patterns = words.replace(" ", r"\ ").replace("\n", "|")
+        put(path, (SCRIPT % (binary, patterns, change)).encode(), 0o755)
+        return
+    source = PROGRAM % (change if words == "memory" else MEMORY, change if words == "limit" else "", binary)
+    subprocess.run(["cc", "-x", "c", "-", "-o", path], input=source.encode(), check=True)
 
 
 def main():
@@ -137,9 +201,16 @@ def main():
     arguments = reader.parse_args()
     binary, counts = program_of(arguments), Counts()
     with tempfile.TemporaryDirectory(prefix="romtool-") as top:
-        for name, words, change in [(name, *it) for name, some in ERRORS.items() if arguments.name in name for it in some]:
-            put(f"{top}/romtool", (SCRIPT % (binary, words.replace(" ", r"\ "), change)).encode(), 0o755)
-            counts.result(f"{name}: {words} {change}", [] if is_found(name, f"{top}/romtool") else ["no test finds this"])
+        path = f"{top}/romtool"
+        for name, errors in ((name, errors) for name, errors in ERRORS.items() if arguments.name in name):
+            nothing = ("memory", MEMORY) if name == "refusals" else ("\n".join(words for words, _ in errors), ":")
+            for words, change in nothing, *errors:
+                plant(binary, name, words, change, path)
+                if (words, change) == nothing:
+                    wrong = ["a test finds this"] if is_found(name, path, "--parallel") else []
+                else:
+                    wrong = [] if is_found(name, path) else ["no test finds this"]
+                counts.result(f"{name}: {words!r} {change}", wrong)
     return counts.close()
 
 

@@ -480,9 +480,11 @@ def for_aarch64(folder, prefix, top, counts):
 
 def answers(program, counts):
     """The program of the release answers each case as its tests have it."""
-    status, said = ran([sys.executable, HERE + "/run.py", "--binary", program])
+    status, said = ran(["sh", HERE + "/pytest.sh", HERE + "/test_cases.py::test_plain", "--binary", program])
     passed = re.findall(r"^(\d+) passed, 0 failed", said, re.M)
-    if passed and status == 0:
+    if "pytest is not installed" in said:
+        counts.skips("the cases with the program of the release: pytest is not installed")
+    elif passed and status == 0:
         counts.passes(int(passed[-1]))
     else:
         counts.fails("the cases with the program of the release", said.splitlines()[-40:])

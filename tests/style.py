@@ -2,7 +2,7 @@
 """Checks the form of the sources: lines that are too long, public items without a docstring, edits that cannot be applied, and
 the Python.
 
-    style.py
+    style.py [--write]
 
 Lines of `src/` and `specs/` have at most 100 columns, and those of `proofs/` at most 120. Some lines cannot be shorter: the
 import of a single name, a `#[tactic(..)]`, which the formatter puts into one line, and a line with a long text. Each public
@@ -11,17 +11,20 @@ its file once.
 
 All scripts are formatted by black and pass flake8, with the rules of pyproject.toml and .flake8. If one of the two is not
 installed, all scripts are compiled instead. No script changes its current directory, and only one function waits by sleeping.
+The files of tests/cases have the lines that run.py names; with `--write` they get these lines, and nothing is tested.
 The last line is `N passed, M failed`, with `, K skipped`: a test for each file, and one for each rule of the Python.
 """
 
+import argparse
 import glob
 import os
 import re
 import subprocess
 import sys
 
-from files import text_of
+from files import put, text_of
 from harness import SECONDS, TOP, Counts, missing
+from run import in_form
 
 CRATES = os.path.join(TOP, "crates")
 FOLDERS = ("tests", "tools", "bench", *("bindings/python/" + it for it in ("romtool", "tests", "examples")))
@@ -146,8 +149,22 @@ def python(counts):
     counts.result("Python: directories and sleeping", [line for name in names for line in wrong_python(name)])
 
 
+def unlike_form(path):
+    """Yields whether a file of cases has other lines than its form."""
+    if text_of(path) != in_form(text_of(path)):
+        yield "its lines are others than those of `tests/style.py --write`"
+
+
 def main():
-    counts = Counts()
+    reader = argparse.ArgumentParser(description="Check the form of the sources.")
+    reader.add_argument("--write", action="store_true", help="put the files of tests/cases into their form, and test nothing")
+    counts, cases = Counts(), sorted(glob.glob(TOP + "/tests/cases/*.json"))
+    if reader.parse_args().write:
+        for path in cases:
+            put(path, in_form(text_of(path)).encode())
+        return 0
+    for path in cases:
+        counts.result(os.path.relpath(path, TOP), unlike_form(path))
     for path in sorted(glob.glob("%s/*/must-fail/*.edit" % CRATES)):
         counts.result(os.path.relpath(path, TOP), wrong_in_edit(path))
     for kind, ending in (("src", "rt"), ("specs", "antt"), ("proofs", "antt")):

@@ -95,25 +95,13 @@ def cases(binary, answers, words, most, counts):
     """All runs of cases with these words that the program can be asked, of images of at most so many bytes. The images are
     given by a plain name, since a board gets its words in one line."""
     passed_over = 0
-    for topic in c.TOPICS:
-        for case in run.load(topic):
-            asked = [told for told in case["runs"] if c.is_asked(told) and told["words"][0] in words]
-            if not asked:
-                continue
-            with tempfile.TemporaryDirectory(prefix="romtool-") as top:
-                run.lay_out(case, top)
-                for told in asked:
-                    path = os.path.join(top, told["words"][1])
-                    if not os.path.isfile(path):
-                        continue
-                    if os.path.getsize(path) > most:
-                        passed_over += 1
-                        continue
-                    plain = "plain-%d" % case["runs"].index(told)
-                    os.symlink(path, os.path.join(top, plain))
-                    lines = run.bytes_of(told.get("in", ""))
-                    place = "%s: %s" % (topic, case["name"])
-                    c.answered(binary, answers, [told["words"][0], plain], lines, top, place, counts)
+    for number, (place, top, (word, name), lines) in enumerate(c.asked_of_cases(words)):
+        if os.path.getsize(os.path.join(top, name)) > most:
+            passed_over += 1
+            continue
+        plain = "plain-%d" % number
+        os.symlink(name, os.path.join(top, plain))
+        c.answered(binary, answers, [word, plain], lines, top, place, counts)
     if passed_over:
         print("%s: %d images are larger than its memory" % (os.path.basename(answers), passed_over))
 

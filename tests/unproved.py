@@ -15,7 +15,7 @@ import tempfile
 
 import c
 from harness import HERE, Counts, missing, parser, program_of
-from run import lay_out, load, started, topics
+from run import lay_out, named_cases, started
 
 TOOL = os.path.join(HERE, "..", "tools", "unproved")
 
@@ -85,15 +85,13 @@ def main():
     with tempfile.TemporaryDirectory(prefix="unproved-") as folder:
         by_library(proved, folder, counts)
         unproved = built(folder, counts)
-        for topic in topics() if unproved else []:
-            for case in load(topic):
-                place = f"{topic}: {case['name']}"
-                if case.get("no_root") and os.geteuid() == 0:
-                    counts.skips(f"{place}: root runs it")
-                elif answers(proved, case) == answers(unproved, case):
-                    counts.passes()
-                else:
-                    counts.fails(f"{place}: the two programs differ")
+        for place, case in named_cases() if unproved else []:
+            if case.get("no_root") and os.geteuid() == 0:
+                counts.skips(f"{place}: root runs it")
+            elif answers(proved, case) == answers(unproved, case):
+                counts.passes()
+            else:
+                counts.fails(f"{place}: the two programs differ")
     return counts.close()
 
 
