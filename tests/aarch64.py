@@ -4,8 +4,8 @@
     aarch64.py [--binary PATH] [--made DIR]
 
 tools/unproved --aarch64 builds both, unless DIR has them. The static one makes each run of the cases (see run.py); a case that
-limits the memory limits that of the emulated program. It packs random directories as pack.py does, passes the tests in pytest
-on images of a few random manifests, and those of SOME, of the scripts that have the system interfere: links as OUT, disks that
+limits the memory limits that of the emulated program. It passes the tests of `pack` (test_pack.py), those in pytest
+on images of a few random manifests, SCANNED, and those of SOME, of the scripts that have the system interfere: links as OUT, disks that
 are full, directories of others. The other one answers as PATH does what BOTH asks. c/aarch64.c answers as the kit's archives do
 (c/kit.c). What is left out: tests that trace calls, since those of the emulator are seen, too, and fakeroot, which does not
 reach a program in the emulator. The last line is `N passed, M failed`, with `, K skipped` if a tool is missing.
@@ -13,14 +13,12 @@ reach a program in the emulator. The last line is `N passed, M failed`, with `, 
 
 import errno
 import os
-import random
 import subprocess
 import sys
 import tempfile
 
 import c
 import files
-import pack
 import rooms
 import run
 from harness import HERE, TOP, Counts, missing, parser, program_of
@@ -31,15 +29,15 @@ sys.path.insert(0, os.path.join(TOP, "tools"))
 import unproved_aarch64 as tool  # noqa: E402
 
 LIBRARIES = "/usr/aarch64-linux-gnu"
-SEEDS, PACKED = 3, range(1, 11)
+SEEDS, PACKED = 3, 10
+IGNORED = ["--ignore-glob=%s/test_%s.py" % (HERE, it) for it in ("*pack*", "*scan*")]  # of the tests on images
 # tests of other scripts, by their names
 SOME = {
-    "extract_into": ("",),
-    "extract": ("folders_that_are_there", "links_that_lead_elsewhere", "owners", "further_names_are_told"),
-    "edge": ("out_behind_forty_links", "owner_is_kept", "closed_streams"),
-    "edge_kept": ("file_system_that_loses", "file_server_that_is_full", "out_is_standard_output", "group_of_out", "out_of_another_user"),
-    "edge_scan": ("odd_folders", "every_byte", "folders_that_are_forbidden"),
+    "test_extract": ("into or refused_places or empty_folders or links_that_lead_elsewhere or owners or further_names",),
+    "test_edge": ("out_behind_forty_links or (owner_of_out and None) or closed_streams",),
+    "test_edge_kept": ("that_loses or server_that_is_full or out_is_standard_output or group_of_out or out_of_another_user",),
 }
+SCANNED = "odd_folders or every_byte or folders_that_are_forbidden"  # tests of test_edge_scan.py
 # what both programs do in a directory
 BOTH = {
     "folders": ["tree/d"],
@@ -91,22 +89,17 @@ def of_cases(static, top, counts):
                 counts.result(place, run.wrong_run(program, {**case, "runs": runs}, room))
 
 
-def packs(program, counts):
-    """Packs random directories in one step and in two, as pack.py does; also what is refused, and rules for make."""
-    with tempfile.TemporaryDirectory(prefix="romtool-") as room:
-        tester = pack.Tester(program, counts, room)
-        for test in (pack.partitions, pack.words_for_people, pack.refused, pack.rebuilds, pack.faked):
-            test(tester)
-        for seed in PACKED:
-            pack.one_directory(tester, seed, random.Random(seed))
-
-
 def counted(name, words, counts):
     """Adds the counts of other tests."""
     said = subprocess.run(words, stdout=subprocess.PIPE, stderr=subprocess.STDOUT, text=True, errors="replace").stdout
     found = [int(it or 0) for it in (rooms.LAST.findall(said) or [(0, 1, 0)])[-1]]
     counts.passed, counts.failed, counts.skipped = (a + b for a, b in zip((counts.passed, counts.failed, counts.skipped), found))
     print("".join(said.splitlines(True)[:-1]) + ("FAILED %s\n" % name) * bool(found[1]), end="")
+
+
+def in_pytest(program, file, *more):
+    """Returns the words that run the tests of a file in pytest, or of all."""
+    return ["sh", HERE + "/pytest.sh", "%s/%s" % (HERE, file), "--binary", program, *more]
 
 
 def lacks():
@@ -137,12 +130,14 @@ def main():
             counts.equal("what both programs do", answers(it, BOTH), answers(binary, BOTH))
         kit(made + "/aarch64.o", top, counts)
         of_cases(made + "/romtool-static", top, counts)
-        packs(static, counts)
-        counted("images", ["sh", HERE + "/pytest.sh", "-k", "seed", "--seeds", str(SEEDS), "--binary", static], counts)
+        counted("pack", in_pytest(static, "test_pack.py", "-k", "not fakeroot", "--seeds", str(PACKED)), counts)
+        counted("edge_scan", in_pytest(static, "test_edge_scan.py", "-k", SCANNED), counts)
+        counted("images", in_pytest(static, "", *IGNORED, "-k", "seed", "--seeds", str(SEEDS)), counts)
         for name, tests in SOME.items():
             for test in tests:
-                words = [sys.executable, "%s/%s.py" % (HERE, name), "--binary", static, "--name", test]
-                counted("%s: %s" % (name, test), words, counts)
+                path = "%s/%s.py" % (HERE, name)
+                words = ["sh", HERE + "/pytest.sh", path, "-k"] if name.startswith("test_") else [sys.executable, path, "--name"]
+                counted("%s: %s" % (name, test), [*words, test, "--binary", static], counts)
     return counts.close()
 
 

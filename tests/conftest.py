@@ -11,7 +11,9 @@ From another directory name this one, or a file of it: `pytest . -k digest --bin
 A test with the parameter `image` is run on each image of the cases (see run.py) that `check` accepts, and on those of random
 manifests (see manifests.py): `test_facts[seed 17]`. One with the parameter `faulty` is run on the files of the cases that it
 refuses. The mark `images` says which images a test has, if not these. The tests are sorted by their images, so each is made once.
-One with the parameter `case` is run on each case, or on those that its mark `cases` chooses: `test_plain[serve/hello]`.
+One with the parameter `case` is run on each case, or on those that its mark `cases` chooses: `test_plain[serve/hello]`. One with the
+mark `seeds` is run with so many random seeds (`seed`), or with random numbers of each (`chance`): `test_options[seed 17]`. A test with the
+fixture `here` uses relative names in a new directory.
 """
 
 import functools
@@ -20,10 +22,13 @@ import random
 import tempfile
 from pathlib import Path
 
+import fuse
 import manifests
 import pytest
+import traced
 from harness import PROGRAM, missing
 from romtool import answer, entries_of, pieces_of, run
+from rooms import IS_ROOT
 from run import files_of_cases, named_cases
 
 MOST = 2**20  # bytes of an image of the cases
@@ -33,14 +38,15 @@ BEHIND = (b"", b"", b"", b"behind", b"\0" * 5000, bytes(range(256)) * 16)  # wha
 
 def pytest_addoption(parser):
     parser.addoption("--binary", default=PROGRAM, help="the program, if not the one that `rt ci` leaves")
-    parser.addoption("--first", type=int, default=1, help="the seed of the first random manifest")
-    parser.addoption("--seeds", type=int, help="how many random manifests each test has")
+    parser.addoption("--first", type=int, default=1, help="the first random seed")
+    parser.addoption("--seeds", type=int, help="how many random seeds each test has")
 
 
 def pytest_configure(config):
     config.addinivalue_line("markers", "images(cases, seeds, step, also): which images the test has: see Images.of_test")
     config.addinivalue_line("markers", "cases(only): the test has only the cases of which this function is true")
-    config.addinivalue_line("markers", "needs(*tools): the test is skipped if one of these programs is missing")
+    config.addinivalue_line("markers", "seeds(count): the test is run with so many random seeds")
+    config.addinivalue_line("markers", "needs(*tools): the test is skipped if one of these is missing: see `is_there`")
 
 
 def pytest_sessionstart(session):
@@ -49,10 +55,17 @@ def pytest_sessionstart(session):
         pytest.exit(f"no program {session.config.option.binary}: build it by `rt run` in crates/romtool", 1)
 
 
+@functools.cache
+def is_there(tool):
+    """Returns whether something that a test needs is there: a program, calls that fail by `strace`, `fuse`, or the rights of `root`."""
+    others = {"root": lambda: IS_ROOT, "strace": traced.is_there, "fuse": fuse.is_there}
+    return others[tool]() if tool in others else not missing(tool)
+
+
 def pytest_runtest_setup(item):
-    for lacks in [missing(*mark.args) for mark in item.iter_markers("needs")]:
-        if lacks:
-            pytest.skip(f"{lacks} is not installed")
+    for tool in [it for mark in item.iter_markers("needs") for it in mark.args]:
+        if not is_there(tool):
+            pytest.skip(f"it needs {tool}")
 
 
 def pytest_report_teststatus(report, config):
@@ -77,6 +90,10 @@ class Romtool:
     def __call__(self, *words, **more):
         """Runs the program, and returns its output, what is on standard error, and its status."""
         return answer(run(self.path, *words, **more))
+
+    def line(self, text, **more):
+        """Runs the program with the words of a text, which spaces separate."""
+        return self(*text.split(" "), **more)
 
     def build(self, room, lines, format="cramfs", sources=(), out="image"):
         """Builds an image in a directory of these lines; the sources are `source0`, `source1`, .."""
@@ -152,6 +169,11 @@ def of_seed(romtool, room, seed):
     return Image(romtool, room / "image", made)
 
 
+def seeds_of(option, count):
+    """Returns the seeds of a test that has so many, if the command line does not say how many."""
+    return range(option.first, option.first + (option.seeds if option.seeds and count else count))
+
+
 class Images:
     """The images of a session by their names. Each is made in a directory of its own, and the last ones are kept in memory."""
 
@@ -177,8 +199,7 @@ class Images:
 
     def of_test(self, cases=True, seeds=SEEDS, step=1, also=None):
         """Returns the names of a test's images, as its mark says: of the cases, of random manifests, and those of other makers."""
-        first, count = self.option.first, self.option.seeds if self.option.seeds and seeds else seeds
-        more = {f"seed {it}": functools.partial(of_seed, seed=it) for it in range(first, first + count, step)} | (also or {})
+        more = {f"seed {it}": functools.partial(of_seed, seed=it) for it in seeds_of(self.option, seeds)[::step]} | (also or {})
         self.makers.update(more)
         return [*(self.of_cases[True] if cases else ()), *more]
 
@@ -192,6 +213,12 @@ def images_of(config):
 def pytest_generate_tests(metafunc):
     """Runs a test on each of its images or cases."""
     images = images_of(metafunc.config)
+    for mark in metafunc.definition.iter_markers("seeds"):
+        numbers = seeds_of(metafunc.config.option, *mark.args)
+        if "seed" in metafunc.fixturenames:
+            metafunc.parametrize("seed", numbers, ids="seed {}".format)
+        else:
+            metafunc.parametrize("chance", [f"seed {it}" for it in numbers], indirect=True)
     if "case" in metafunc.fixturenames:
         mark = metafunc.definition.get_closest_marker("cases")
         cases = {name: case for name, case in named_cases() if not mark or mark.kwargs["only"](case)}
@@ -235,6 +262,15 @@ def room():
     """A new directory."""
     with tempfile.TemporaryDirectory(prefix="romtool-") as folder:
         yield Path(folder)
+
+
+@pytest.fixture
+def here(room, monkeypatch):
+    """A new directory, which is the current one. The mask of modes is 022."""
+    monkeypatch.chdir(room)
+    mask = os.umask(0o022)
+    yield room
+    os.umask(mask)
 
 
 @pytest.fixture

@@ -13,8 +13,7 @@ import sys
 
 import fuse
 import rooms
-from edge import hello, wanted
-from files import put, text_of
+from files import bytes_in, put, text_of
 from romtool import FORMATS, answer, run
 
 OLD = b"what was there before"
@@ -81,9 +80,11 @@ def crashes(binary):
     if not fuse.is_there():
         yield None
         return
-    hello()
+    put("m", b"file /a 0644 0 0 4 a\n")
+    put("a", b"hello")
     for format in FORMATS:
-        image = wanted(binary, format)
+        run(binary, "build", format, "m", "image")
+        image = bytes_in("image")
         for old in (None, OLD):
             whole = built(binary, format, old)
             if whole is None:

@@ -282,15 +282,15 @@ def fault_texts(table, counts):
 
 
 def mentioning(fault):
-    """Returns the files that mention a fault: its name as a text or after its number, or its constant as one of rom_faults. Proofs are
-    left out: what has to be proved follows from the other files."""
+    """Returns the files that mention a fault: its name as a text or after its number, or its constant as one of rom_faults. Proofs and
+    the list of clauses are left out: they follow from the other files."""
     named = r'"%s"|\b%d %s\b' % (fault.name, fault.number, fault.name)
     constant = r"\b%s\b" % fault.constant
     imported = r"rom_faults[\w.:]*(?:\{[^}]*)?" + constant
     found = set()
     for at, folders, files in os.walk(TOP):
         folders[:] = [it for it in folders if it not in (".git", "out", "proofs", "target", "__pycache__")]
-        for path in (os.path.relpath(os.path.join(at, it), TOP) for it in files):
+        for path in (os.path.relpath(os.path.join(at, it), TOP) for it in files if it != "clauses.txt"):
             with open(os.path.join(TOP, path), encoding="utf-8", errors="replace") as file:
                 text = file.read()
             is_own = path.startswith("crates/rom_faults/") or path.endswith(".edit")

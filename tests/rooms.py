@@ -1,7 +1,7 @@
 """Runs tests whose files have relative names, each as a process of its own in a new, empty directory.
 
 So no test changes the current directory, its mask or its signals for the others. A script whose tests are run here can
-run one of them in the current directory, whose files then stay: `edge.py --binary PROGRAM --here each_call_failed`.
+run one of them in the current directory, whose files then stay: `crash.py --binary PROGRAM --here crashes`.
 """
 
 import functools

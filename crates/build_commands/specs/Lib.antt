@@ -7,3 +7,8 @@ pub mod Printed
 pub mod Changed
 pub mod Warnings
 pub mod Reported
+pub mod ScanPrinted
+pub mod Scans
+pub mod Names
+pub mod Rules
+pub mod Lines

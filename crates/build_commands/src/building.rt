@@ -5,14 +5,14 @@ ghost use Rattle.build_commands.specs.Printed.{refusal_line, size_line, strict_l
 ghost use Rattle.rom_fields.specs.Failures.{Counts, one_more};
 ghost use Rattle.rom_fields.specs.Written.{WritesText};
 
+use crate::line::print_line;
+use crate::part::Part::{Name, Number, Text};
 use crate::warnings::warning_name;
-use lines::Part::{Name, Number, Text};
-use lines::print_line;
 use rom_fields::{ByteWrite, Failed};
 
 /// Writes the line of a refusal, and flushes it: who refused, the line, and the refusal's number
 /// and name.
-#[tactic(auto, unfolding(lines::specs::Lines::line_text, lines::specs::Lines::part_text, crate::specs::Printed::refusal_line))]
+#[tactic(auto, unfolding(crate::specs::Lines::line_text, crate::specs::Lines::part_text, crate::specs::Printed::refusal_line))]
 fn print_refusal<'x, W: ByteWrite>(
     w: &mut W,
     who: &'x [u8],
@@ -47,7 +47,7 @@ fn print_refusal<'x, W: ByteWrite>(
 /// # Errors
 ///
 /// `Failed` if a write or the flush failed. Then a prefix of the line was written.
-#[tactic(auto, unfolding(lines::specs::Lines::line_text, lines::specs::Lines::part_text, crate::specs::Printed::built_line))]
+#[tactic(auto, unfolding(crate::specs::Lines::line_text, crate::specs::Lines::part_text, crate::specs::Printed::built_line))]
 pub fn print_built<W: ByteWrite>(w: &mut W, len: u64) -> Result<(), Failed>
     ensures text { WritesText (W.output w.old).contents (W.output w.new).contents result
         (built_line len) }
@@ -95,7 +95,7 @@ pub fn print_misfit<W: ByteWrite>(w: &mut W, line: u64, number: u32) -> Result<(
 /// # Errors
 ///
 /// `Failed` if a write or the flush failed. Then a prefix of the line was written.
-#[tactic(auto, unfolding(lines::specs::Lines::line_text, lines::specs::Lines::part_text, crate::specs::Printed::size_line))]
+#[tactic(auto, unfolding(crate::specs::Lines::line_text, crate::specs::Lines::part_text, crate::specs::Printed::size_line))]
 pub fn print_size<W: ByteWrite>(w: &mut W, len: u64, most: u64) -> Result<(), Failed>
     ensures text { WritesText (W.output w.old).contents (W.output w.new).contents result
         (size_line len most) }
@@ -136,7 +136,7 @@ pub fn print_strict<W: ByteWrite>(w: &mut W, line: u64, number: u32) -> Result<(
 /// # Errors
 ///
 /// `Failed` if a write or the flush failed. Then a prefix of the line was written.
-#[tactic(auto, unfolding(lines::specs::Lines::line_text, lines::specs::Lines::part_text, crate::specs::Printed::xip_line))]
+#[tactic(auto, unfolding(crate::specs::Lines::line_text, crate::specs::Lines::part_text, crate::specs::Printed::xip_line))]
 pub fn print_xip<'x, W: ByteWrite>(
     w: &mut W,
     line: u64,

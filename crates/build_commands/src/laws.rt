@@ -1,27 +1,30 @@
 //! Laws about what is printed.
-ghost use Rattle.std.specs.Prelude.{◌≡◌, ◌≢◌, ℕ, List, [], Ok, Option, None, Some, false};
-ghost use Rattle.std.specs.Prelude.{IsSomeAnd};
 ghost use Rattle.std.specs.List.{Contains};
+ghost use Rattle.std.specs.List.Sorted.{IsPermutation};
+ghost use Rattle.std.specs.Prelude.{ℕ, ◌≡◌, ◌≢◌, Bool, IsSomeAnd, List, None, Ok, Option, Some, []};
+ghost use Rattle.std.specs.Prelude.{false, length};
 ghost use Rattle.build_commands.specs.Inventory.{lines_found};
+ghost use Rattle.build_commands.specs.Nearest.{HasSmallNumbers, nearest_in};
 ghost use Rattle.build_commands.specs.Reported.{AreOfOne, AreReportedAlike, kind_named};
 ghost use Rattle.build_commands.specs.Reported.{node_report, path_of, report_of};
 ghost use Rattle.build_commands.specs.Scanned.{AreTaken, Entry, lines_as, scan_text};
-ghost use Rattle.build_commands.specs.Nearest.{HasSmallNumbers, nearest_in};
+ghost use Rattle.build_commands.specs.Scans.{IsScannable, all_shown};
 ghost use Rattle.build_commands.specs.declared.inventory.NamedFile.{NamedFile};
+ghost use Rattle.directory_walk.specs.Trees.{AreInOrder, Name, Tree, all_below};
+ghost use Rattle.formats.specs.Format.{format_of};
+ghost use Rattle.formats.specs.declared.format.Format as code;
 ghost use Rattle.manifest.specs.Grammar.{manifest_of};
 ghost use Rattle.manifest.specs.Lines.{is_hard};
-ghost use Rattle.manifest.specs.declared.line.Line.{Line};
-ghost use Rattle.manifest.specs.Printed as printed;
-ghost use Rattle.manifest.specs.Printed.{IsVolume, as_read, first_number, manifest_text};
-ghost use Rattle.manifest_layout.specs.Misfit.{HasBadAttribute};
 ghost use Rattle.manifest.specs.Paths.{names_of};
+ghost use Rattle.manifest.specs.Printed.{IsVolume, as_read, first_number, manifest_text};
+ghost use Rattle.manifest.specs.Printed as printed;
+ghost use Rattle.manifest.specs.declared.line.Line.{Line};
+ghost use Rattle.manifest_layout.specs.Misfit.{HasBadAttribute};
 ghost use Rattle.manifest_tree.specs.Meant.{IsMeant};
 ghost use Rattle.manifest_tree.specs.Shape.{node_under};
 ghost use Rattle.manifest_tree.specs.Tree.{inode_of};
 ghost use Rattle.rom_tree.specs.Tree.{Node, ino_of};
 ghost use Rattle.rom_tree.specs.declared.types.Kind.TheVariants as kind;
-ghost use Rattle.formats.specs.Format.{format_of};
-ghost use Rattle.formats.specs.declared.format.Format as code;
 
 /// States that a scan prints a manifest that has exactly one line for each entry, if the grammar
 /// accepts each entry after those before it. States the same for a directory as it is: its manifest
@@ -68,3 +71,19 @@ pub fn found_files_are_meant()
         → names_of (path_of f) ≡ Some p → names_of (path_of g) ≡ Some q
         → node_under p t ≡ Some x → node_under q t ≡ Some y → ino_of x ≡ ino_of y }
 {}
+
+/// States that a scan prints the manifest of a tree. Take the entries of a directory as a walk
+/// finds them: all that are below it, each once, in the order of the bytes of their paths. Their
+/// lines are a manifest with exactly one line for each entry.
+pub fn scan_is_the_tree()
+    ensures { (path : List ℕ) (t : Tree Bool) (ns : List (Name Bool)) → IsScannable path t
+        → IsPermutation (all_below path t) ns → AreInOrder ns
+        → manifest_of (scan_text (all_shown (length path) ns))
+        ≡ Ok (record {
+          lines = lines_as 1 (all_shown (length path) ns);
+          volume = [];
+          volume_line = 0;
+        }) }
+{
+    scans_are_manifests();
+}

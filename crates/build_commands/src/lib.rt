@@ -1,20 +1,42 @@
-//! What the program prints when it builds images and scans directories.
+//! What the program prints when it builds images and scans directories, and the rules for make that
+//! it writes. A line is a list of parts (`Part`), which one function writes.
 //!
 //! Proved: each function writes exactly its line or its manifest, or a prefix of it if a write
 //! failed; and a scan prints a manifest of exactly the names that it found, which means a tree of
 //! the files that were reported (`laws`).
+//!
+//! `print_walked` prints what a walk finds, as the lines of a manifest. Proved: if a lister reports
+//! a tree, then the manifest that is printed of the entries of its walk has exactly one line for
+//! each file and directory in this tree, in the order of the bytes of their paths
+//! (`specs/Scans.antt`). This holds if a manifest accepts each name of the tree, if its paths are
+//! short enough, and if only directories are entered.
+//!
+//! A `Rule` has the files on which an image depends, and a rule without prerequisites for each
+//! source, so that make does not stop if a source was removed. GNU make has no spelling of some
+//! names, and reads some as something else. `Rule::is_sayable` accepts names of permitted bytes.
+//! Proved: the text is exactly the one of `specs/Rules.antt`, and a name is accepted exactly if it
+//! is sayable there. That make reads each such name as it is meant is tested, not proved.
 #![tactic(auto)]
 
 mod building;
 pub mod changes;
 pub mod inventory;
 pub mod laws;
+mod line;
 mod nearest;
+mod part;
+mod printing;
+mod rule;
+mod rule_name;
 mod scanning;
 mod warnings;
 
 pub use building::{
     print_bad_manifest, print_built, print_misfit, print_size, print_strict, print_xip,
 };
+pub use line::{print_line, put_line, write_line};
+pub use part::Part;
+pub use printing::{PrintError, print_walked};
+pub use rule::Rule;
 pub use scanning::{Found, put_scan};
 pub use warnings::warning_name;

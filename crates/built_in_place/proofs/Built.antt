@@ -13,9 +13,9 @@ use Rattle.manifest_layout.specs.Misfit.{HasNoMisfit, long}
 use Rattle.manifest_layout.specs.Placement.{IsPlaced}
 use Rattle.image_build.specs.Builds.{Builds}
 use Rattle.cramfs_format.specs.Inode.{block_count}
-use Rattle.cramfs_mapping.specs.Physmem.{Flash, is_whole}
-use Rattle.cramfs_mapping.specs.declared.mapping.Mapping.{Mapping}
-use Rattle.cramfs_mapping.specs.InPlace.{IsInPlace}
+use Rattle.program_pages.specs.Physmem.{Flash, is_whole}
+use Rattle.program_pages.specs.declared.mapping.Mapping.{Mapping}
+use Rattle.program_pages.specs.InPlace.{IsInPlace}
 use Rattle.built_in_place.specs.Files.{HoldsImage, AreInPlace, AreMappedWhole}
 use Rattle.built_in_place.proofs.Regular.{regular_at}
 use Rattle.built_in_place.proofs.Under.{in_under}

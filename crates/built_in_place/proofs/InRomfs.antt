@@ -16,8 +16,8 @@ use Rattle.romfs_format.proofs.Bridge.{accepted}
 use Rattle.romfs_format.proofs.Contents.{file_fits, file_size, made_places}
 use Rattle.romfs_format.proofs.Trees.{all_made}
 use Rattle.image_check.proofs.Fronts.{front_be}
-use Rattle.cramfs_mapping.specs.Physmem.{Flash}
-use Rattle.cramfs_mapping.specs.declared.mapping.Mapping.{Mapping}
+use Rattle.program_pages.specs.Physmem.{Flash}
+use Rattle.program_pages.specs.declared.mapping.Mapping.{Mapping}
 use Rattle.linux_misreads.specs.Readers.{romfs_data}
 use Rattle.built_in_place.specs.Romfs.{FillsPages, IsMappedInRomfs, area_of, page_count, romfs_area}
 

@@ -1,6 +1,6 @@
 -- `AreInPlace`: Linux maps the pages of the files of an image to the flash itself, if the manifest
 -- gives them an ALIGN of whole pages. (This project's own. Linux's rule is
--- `cramfs_mapping.specs.Physmem`.)
+-- `program_pages.specs.Physmem`.)
 use Rattle.std.specs.Prelude.{◌≡◌, ◌≢◌, ℕ, ◌+◌, ◌%◌, ◌<◌, ◌≤◌, true, false, List, ◌∷◌, ◌++◌, length}
 use Rattle.std.specs.Prelude.{reverse, Some}
 use Rattle.record_forest.specs.Members.{Has}
@@ -11,9 +11,9 @@ use Rattle.manifest.specs.Lines.{ManifestLines, filed}
 use Rattle.manifest.specs.Paths.{names_of}
 use Rattle.manifest_tree.specs.Shape.{node_under}
 use Rattle.cramfs_format.specs.Inode.{block_count}
-use Rattle.cramfs_mapping.specs.Physmem.{Flash, is_whole}
-use Rattle.cramfs_mapping.specs.InPlace.{IsInPlace}
-use Rattle.cramfs_mapping.specs.declared.mapping.Mapping.{Mapping}
+use Rattle.program_pages.specs.Physmem.{Flash, is_whole}
+use Rattle.program_pages.specs.InPlace.{IsInPlace}
+use Rattle.program_pages.specs.declared.mapping.Mapping.{Mapping}
 
 -- the image is at the front of the flash, which has an address and begins with a page
 pub record HoldsImage (f : Flash) (bytes : List ℕ) : Type 0 where

@@ -6,8 +6,8 @@ use Rattle.std.specs.Prelude.{if◌then◌else◌, nat_lt, slice_index, Option, 
 use Rattle.rom_tree.specs.Tree.{Node, IsIn, ino_of, is_regular, nodes, places_of}
 use Rattle.romfs_format.specs.Record.{name_of, size_of}
 use Rattle.linux_misreads.specs.Readers.{romfs_data}
-use Rattle.cramfs_mapping.specs.Physmem.{Flash}
-use Rattle.cramfs_mapping.specs.declared.mapping.Mapping.{Mapping}
+use Rattle.program_pages.specs.Physmem.{Flash}
+use Rattle.program_pages.specs.declared.mapping.Mapping.{Mapping}
 
 -- the pages of a file of n bytes
 abbrev pub page_count : ℕ → ℕ

@@ -3,7 +3,7 @@ ghost use Rattle.std.specs.Prelude.{◌≡◌, ◌<◌, ◌^◌, ℕ, List, Ok, 
 ghost use Rattle.built_in_place.specs.Files.{AreInPlace, AreMappedWhole, HoldsImage};
 ghost use Rattle.built_in_place.specs.Romfs.{AreMappedInRomfs, FillsPages};
 ghost use Rattle.cramfs_format.specs.declared.order.Order.{Order};
-ghost use Rattle.cramfs_mapping.specs.Physmem.{Flash};
+ghost use Rattle.program_pages.specs.Physmem.{Flash};
 ghost use Rattle.formats.specs.Format.{cramfs};
 ghost use Rattle.image_build.specs.Accepted.{usual};
 ghost use Rattle.image_build.specs.Builds.{Builds};
@@ -28,7 +28,7 @@ pub fn built_is_in_place()
     image_build::laws::built_is_placed();
     image_check::laws::one_tree();
     manifest_layout::laws::layout_is_meant();
-    cramfs_mapping::laws::aligned_is_in_place();
+    program_pages::laws::aligned_is_in_place();
 }
 
 /// Shows that without an MMU each file of a built cramfs image is mapped whole by Linux, whatever
@@ -43,7 +43,7 @@ pub fn built_is_mapped_whole()
     image_build::laws::built_is_placed();
     image_check::laws::one_tree();
     manifest_layout::laws::layout_is_meant();
-    cramfs_mapping::laws::run_is_whole();
+    program_pages::laws::run_is_whole();
 }
 
 /// Shows that Linux without an MMU maps all pages of each file of a romfs image to the flash,

@@ -17,7 +17,7 @@ use Rattle.cramfs_format.specs.Inode.{has_data, block_start, is_direct, pointer_
 use Rattle.cramfs_format.specs.Inode.{IsSound}
 use Rattle.cramfs_format.specs.Refers.{references, LeadsToSound}
 use Rattle.manifest_tree.specs.Names.{Inode, Names, nothing, leaf, link, subdirectory, bytes_of}
-use Rattle.layout_terms.specs.Lists.{IsName as IsWritten}
+use Rattle.manifest_tree.specs.Lists.{IsName as IsWritten}
 use Rattle.cramfs_layout.specs.Layout.{pad4, type_bits, size_by, entry_len, list_len, list_offset, State, kept}
 use Rattle.cramfs_layout.specs.Layout.{table_by, after_file, after_list, after_names}
 use Rattle.cramfs_layout.specs.Wells.{FitsKind, AreWell, AllRead}

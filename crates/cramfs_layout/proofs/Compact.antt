@@ -12,10 +12,10 @@ use Rattle.cramfs_format.specs.Inode.{block_count}
 use Rattle.rom_fields.specs.Padding.{pad}
 use Rattle.manifest_tree.specs.Names.{Fill, no_bytes, text, source, Inode, Names, nothing, leaf, link, subdirectory}
 use Rattle.manifest_tree.specs.Names.{bytes_of}
-use Rattle.layout_terms.specs.Alignments.{align_by, HaveAlignments}
-use Rattle.layout_terms.specs.Items.{Item, Section, section, table_of, fill_section, put_section, in_order}
-use Rattle.layout_terms.specs.Items.{SectionsRise}
-use Rattle.layout_terms.proofs.Sections.{order_every}
+use Rattle.manifest_tree.specs.Alignments.{align_by, HaveAlignments}
+use Rattle.manifest_tree.specs.Items.{Item, Section, section, table_of, fill_section, put_section, in_order}
+use Rattle.manifest_tree.specs.Items.{SectionsRise}
+use Rattle.manifest_tree.proofs.Sections.{order_every}
 use Rattle.cramfs_layout.specs.Layout.{pad4, entry_len, list_len, State, Kept, nowhere, shared, fresh, kept, kept_by}
 use Rattle.cramfs_layout.specs.Layout.{data_of, after_by, after_file, after_list, after_names, first_state, size_of}
 use Rattle.cramfs_layout.specs.Items.{AreAlignedBy, kept_item, entries, below, items_of, has_table, table_sections}

@@ -6,7 +6,7 @@ use Rattle.cramfs_format.specs.declared.order.Order.{Order}
 use Rattle.rom_fields.specs.Parts.{HasAt, HasParts}
 use Rattle.rom_fields.proofs.Parts.{HasAt-before, HasAt-after, HasAt-moved}
 use Rattle.manifest_tree.specs.Names.{Inode, Names, nothing, leaf, link, subdirectory}
-use Rattle.layout_terms.specs.Items.{Item}
+use Rattle.manifest_tree.specs.Items.{Item}
 use Rattle.cramfs_layout.specs.Layout.{size_by, entry_len, entry_bytes, list_bytes, list_len, list_offset, State, kept}
 use Rattle.cramfs_layout.specs.Layout.{table_by, pad4, file_parts, parts, after_file, after_list, after_names}
 use Rattle.cramfs_layout.specs.Items.{entries, below}

@@ -7,7 +7,7 @@ use Rattle.rom_tree.specs.declared.types.Kind.TheVariants.{Directory, Regular, S
 use Rattle.cramfs_format.specs.declared.order.Order.TheVariants.{Little, Big}
 use Rattle.crc.specs.Crc.{crc_of, after_bit}
 use Rattle.manifest_tree.specs.Names.{Fill, no_bytes, text, source, Inode, Names, nothing, leaf, subdirectory}
-use Rattle.layout_terms.specs.Items.{Item, section, super, record_of, table_of, text_of, contents_of}
+use Rattle.manifest_tree.specs.Items.{Item, section, super, record_of, table_of, text_of, contents_of}
 use Rattle.cramfs_layout.specs.Items.{items_of, sections_of}
 use Rattle.cramfs_layout.specs.Layout.{entry_bytes, kept, data_of, superblock, size_of, with_crc, layout}
 

@@ -9,7 +9,7 @@ use Rattle.rom_fields.specs.Padding.{pad}
 use Rattle.rom_fields.specs.Parts.{HasAt, HasParts}
 use Rattle.manifest_tree.specs.Names.{Fill, no_bytes, text, source, Inode, Names, nothing, leaf, link, subdirectory}
 use Rattle.manifest_tree.specs.Names.{bytes_of}
-use Rattle.layout_terms.specs.Items.{Item}
+use Rattle.manifest_tree.specs.Items.{Item}
 use Rattle.cramfs_layout.specs.Layout.{entry_len, pointers, pad4, State, Table, Kept, nowhere, shared, fresh, kept}
 use Rattle.cramfs_layout.specs.Layout.{kept_by, data_of, with_table, file_parts, parts, after_by, after_file}
 use Rattle.cramfs_layout.specs.Layout.{after_list, after_names}

@@ -9,9 +9,9 @@ use Rattle.cramfs_format.specs.declared.order.Order.{Order}
 use Rattle.cramfs_format.specs.Inode.{block_count}
 use Rattle.rom_fields.specs.Parts.{HasAt}
 use Rattle.manifest_tree.specs.Names.{Fill, no_bytes, text, source, bytes_of}
-use Rattle.layout_terms.specs.Items.{Item, Section, section, table_of, fill_section}
-use Rattle.layout_terms.specs.Bodies.{item_at, body_bytes}
-use Rattle.layout_terms.proofs.Bodies.{item_here, items_later}
+use Rattle.manifest_tree.specs.Items.{Item, Section, section, table_of, fill_section}
+use Rattle.manifest_tree.specs.Bodies.{item_at, body_bytes}
+use Rattle.manifest_tree.proofs.Bodies.{item_here, items_later}
 use Rattle.cramfs_layout.specs.Layout.{entry_len, pad4, pointers, word_bytes}
 use Rattle.cramfs_layout.specs.Items.{has_table, table_sections, sections_from}
 use Rattle.cramfs_layout.specs.Composed.{written, table}

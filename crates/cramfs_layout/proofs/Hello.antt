@@ -4,7 +4,7 @@ use Rattle.std.proofs.Common.{refl, arith, inl, inr}
 use Rattle.std.specs.List.{Contains}
 use Rattle.rom_tree.specs.declared.types.Kind.TheVariants.{Directory, Regular}
 use Rattle.manifest_tree.specs.Names.{Inode, Names, nothing, leaf, subdirectory, source, no_bytes}
-use Rattle.layout_terms.specs.Lists.{IsName}
+use Rattle.manifest_tree.specs.Lists.{IsName}
 use Rattle.cramfs_format.specs.Tree.{precedes}
 use Rattle.cramfs_layout.specs.Layout.{size_of, kept, data_of, list_len}
 use Rattle.cramfs_layout.specs.Wells.{IsFile, IsDirectory}

@@ -14,10 +14,10 @@ use Rattle.cramfs_format.specs.Inode.{type_of, size_of, offset_of, block_count}
 use Rattle.cramfs_format.specs.Tree.{node_of, places_at, blocks_from, by_type, kind_numbers}
 use Rattle.rom_fields.specs.Parts.{HasAt}
 use Rattle.manifest_tree.specs.Names.{Inode, Names, nothing, leaf, link, subdirectory, bytes_of}
-use Rattle.layout_terms.specs.Files.{Placed, at_place}
-use Rattle.layout_terms.specs.Items.{Item}
-use Rattle.layout_terms.specs.Placement.{IsRun}
-use Rattle.layout_terms.proofs.Runs.{no_run, run_of}
+use Rattle.manifest_tree.specs.Files.{Placed, at_place}
+use Rattle.manifest_tree.specs.Items.{Item}
+use Rattle.manifest_tree.specs.Placement.{IsRun}
+use Rattle.manifest_tree.proofs.Runs.{no_run, run_of}
 use Rattle.cramfs_layout.specs.Layout.{pad4, type_bits, size_by, entry_len, pointers, State, Kept, nowhere, shared}
 use Rattle.cramfs_layout.specs.Layout.{fresh, kept, data_of, table_by, after_file, after_list, after_names}
 use Rattle.cramfs_layout.specs.Items.{start_by, entries, below}

@@ -8,10 +8,10 @@ use Rattle.rom_fields.specs.Parts.{Part, part, laid, HasParts, IsOutside}
 use Rattle.rom_fields.proofs.Parts.{HasParts-laid, zero_outside}
 use Rattle.rom_fields.proofs.Determined.{determined}
 use Rattle.manifest_tree.specs.Names.{Inode, Names, bytes_of}
-use Rattle.layout_terms.specs.Items.{Item, Section}
-use Rattle.layout_terms.specs.Bodies.{body_bytes}
-use Rattle.layout_terms.proofs.Bodies.{sections_are}
-use Rattle.layout_terms.proofs.Sections.{order_every, order_back}
+use Rattle.manifest_tree.specs.Items.{Item, Section}
+use Rattle.manifest_tree.specs.Bodies.{body_bytes}
+use Rattle.manifest_tree.proofs.Bodies.{sections_are}
+use Rattle.manifest_tree.proofs.Sections.{order_every, order_back}
 use Rattle.cramfs_layout.specs.Layout.{after_names, first_state, parts, size_of, superblock, with_crc, layout}
 use Rattle.cramfs_layout.specs.Items.{AreAlignedBy, entries, below, items_of, sections_from, sections_of}
 use Rattle.cramfs_layout.specs.Composed.{written, table, cramfs_part, composed}

@@ -11,7 +11,7 @@ use Rattle.cramfs_format.specs.Inode.{name_of}
 use Rattle.cramfs_format.specs.Refers.{references}
 use Rattle.cramfs_format.specs.Tree.{precedes, NamesRise}
 use Rattle.manifest_tree.specs.Names.{Names, nothing, leaf, link, subdirectory}
-use Rattle.layout_terms.specs.Lists.{StandsIn}
+use Rattle.manifest_tree.specs.Lists.{StandsIn}
 use Rattle.cramfs_layout.specs.Layout.{pad4, entry_len, list_len, State, after_file, after_list, after_names}
 use Rattle.cramfs_layout.specs.Wells.{AreWell, AllRead}
 use Rattle.cramfs_layout.specs.Forest.{spots}

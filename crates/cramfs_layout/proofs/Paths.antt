@@ -18,10 +18,10 @@ use Rattle.cramfs_format.specs.Refers.{references}
 use Rattle.cramfs_format.specs.Tree.{node_of, places_at, kind_numbers, entries_at}
 use Rattle.rom_tree.proofs.ByKind.{by_kind_map, by_kind_directory, by_kind_rest}
 use Rattle.manifest_tree.specs.Names.{Inode, Names, nothing, leaf, link, subdirectory, bytes_of}
-use Rattle.layout_terms.specs.Files.{Placed}
-use Rattle.layout_terms.specs.Files.{files}
+use Rattle.manifest_tree.specs.Files.{Placed}
+use Rattle.manifest_tree.specs.Files.{files}
 use Rattle.manifest_tree.specs.Shape.{Named, find_name, node_under, file_under}
-use Rattle.layout_terms.proofs.Alike.{Alike, then_alike}
+use Rattle.manifest_tree.proofs.Alike.{Alike, then_alike}
 use Rattle.cramfs_layout.specs.Layout.{pad4, type_bits, entry_len, State, after_file, after_list, after_names}
 use Rattle.cramfs_layout.specs.Wells.{IsFile, IsDirectory, AreWell, IsStored, AllRead}
 use Rattle.cramfs_layout.specs.Forest.{spots}

@@ -11,7 +11,7 @@ use Rattle.cramfs_format.specs.declared.order.Order.{Order}
 use Rattle.cramfs_format.specs.Inode.{block_count}
 use Rattle.rom_fields.proofs.Climbs.{Climbs, climbs_added}
 use Rattle.manifest_tree.specs.Names.{Inode, Names, nothing, leaf, link, subdirectory}
-use Rattle.layout_terms.specs.Items.{Item}
+use Rattle.manifest_tree.specs.Items.{Item}
 use Rattle.cramfs_layout.specs.Layout.{pad4, entry_len, list_len, State, Kept, nowhere, shared, fresh, kept, data_of}
 use Rattle.cramfs_layout.specs.Layout.{after_by, after_file, after_list, after_names}
 use Rattle.cramfs_layout.specs.Items.{entries, below}

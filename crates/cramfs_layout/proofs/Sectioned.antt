@@ -13,8 +13,8 @@ use Rattle.cramfs_format.specs.declared.order.Order.{Order}
 use Rattle.cramfs_format.specs.Inode.{block_count}
 use Rattle.rom_fields.proofs.Climbs.{Climbs, climbs_added}
 use Rattle.manifest_tree.specs.Names.{Fill, no_bytes, text, source, Inode, Names}
-use Rattle.layout_terms.specs.Items.{Item, Section, SectionsRise, record_of, table_of, section, fill_section}
-use Rattle.layout_terms.proofs.Sections.{AreApart, LiesIn, order_rises}
+use Rattle.manifest_tree.specs.Items.{Item, Section, SectionsRise, record_of, table_of, section, fill_section}
+use Rattle.manifest_tree.proofs.Sections.{AreApart, LiesIn, order_rises}
 use Rattle.cramfs_layout.specs.Layout.{entry_len, list_len, size_of, after_names, first_state}
 use Rattle.cramfs_layout.specs.Items.{AreAlignedBy, entries, below, items_of, has_table, table_sections, sections_from}
 use Rattle.cramfs_layout.specs.Items.{sections_of}

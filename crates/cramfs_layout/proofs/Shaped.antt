@@ -12,11 +12,11 @@ use Rattle.cramfs_format.specs.declared.order.Order.{Order}
 use Rattle.cramfs_format.specs.Refers.{references}
 use Rattle.cramfs_format.specs.Tree.{node_of, attributes_at, tree_of, entries_at}
 use Rattle.manifest_tree.specs.Names.{Inode, Names}
-use Rattle.layout_terms.specs.Files.{Placed, at_place}
-use Rattle.layout_terms.specs.Placement.{IsRun, AreInRuns}
+use Rattle.manifest_tree.specs.Files.{Placed, at_place}
+use Rattle.manifest_tree.specs.Placement.{IsRun, AreInRuns}
 use Rattle.manifest_tree.specs.Shape.{Named, node_value, file_value, node_under, file_under, with_names, HasShape}
-use Rattle.layout_terms.proofs.Alike.{every_unmap, pairs_unmap}
-use Rattle.layout_terms.proofs.Alike.{Alike, alike_map, alike_some, same_both}
+use Rattle.manifest_tree.proofs.Alike.{every_unmap, pairs_unmap}
+use Rattle.manifest_tree.proofs.Alike.{Alike, alike_map, alike_some, same_both}
 use Rattle.cramfs_layout.specs.Layout.{list_len, first_state, after_names, layout}
 use Rattle.cramfs_layout.specs.Planned.{IsPlanned}
 use Rattle.cramfs_layout.specs.Forest.{spots}

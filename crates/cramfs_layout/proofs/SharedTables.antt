@@ -15,8 +15,8 @@ use Rattle.cramfs_format.specs.Tree.{node_of, places_at, blocks_from, by_type, k
 use Rattle.manifest_tree.specs.Names.{Fill, no_bytes, text, source, Inode, Names, nothing, leaf, link, subdirectory}
 use Rattle.manifest_tree.specs.Names.{bytes_of}
 use Rattle.manifest_tree.specs.Shape.{node_under, file_under, with_names}
-use Rattle.layout_terms.specs.Files.{Placed, at_place}
-use Rattle.layout_terms.proofs.Alike.{alike_some}
+use Rattle.manifest_tree.specs.Files.{Placed, at_place}
+use Rattle.manifest_tree.proofs.Alike.{alike_some}
 use Rattle.cramfs_layout.specs.Layout.{pad4, type_bits, size_by, entry_len, State, Table, table_with, Kept, nowhere}
 use Rattle.cramfs_layout.specs.Layout.{shared, fresh, kept, kept_by, kept_with, with_table, table_by, first_state}
 use Rattle.cramfs_layout.specs.Layout.{after_by, after_file, after_list, after_names, layout}

@@ -6,7 +6,7 @@ use Rattle.std.specs.List.{AllByRecursion as Every}
 use Rattle.record_forest.proofs.Lists.{every_left, every_right, every_weaker, every_both}
 use Rattle.cramfs_format.specs.Inode.{block_count}
 use Rattle.manifest_tree.specs.Names.{Fill, no_bytes, text, source, bytes_of}
-use Rattle.layout_terms.specs.Items.{Item, Section, section, table_of, fill_section}
+use Rattle.manifest_tree.specs.Items.{Item, Section, section, table_of, fill_section}
 use Rattle.cramfs_layout.specs.Layout.{entry_len}
 use Rattle.cramfs_layout.specs.Items.{has_table, table_sections, sections_from}
 use Rattle.cramfs_layout.proofs.Runs.{Run, IsRun, AreRuns, run_low, one_run}

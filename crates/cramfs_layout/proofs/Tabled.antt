@@ -8,7 +8,7 @@ use Rattle.cramfs_format.specs.Inode.{block_count}
 use Rattle.rom_fields.specs.Padding.{pad}
 use Rattle.manifest_tree.specs.Names.{Fill, no_bytes, text, source, Inode, Names, nothing, leaf, link, subdirectory}
 use Rattle.manifest_tree.specs.Names.{bytes_of}
-use Rattle.layout_terms.specs.Items.{Item}
+use Rattle.manifest_tree.specs.Items.{Item}
 use Rattle.cramfs_layout.specs.Layout.{pad4, entry_len, State, Table, Kept, nowhere, shared, fresh, kept, kept_by}
 use Rattle.cramfs_layout.specs.Layout.{data_of, with_table, after_by, after_file, after_list, after_names}
 use Rattle.cramfs_layout.specs.Items.{AreAlignedBy, kept_item, entries, below}

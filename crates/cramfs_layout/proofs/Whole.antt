@@ -30,7 +30,7 @@ use Rattle.cramfs_format.proofs.Spans.{ListsApart, row_every}
 use Rattle.rom_tree.specs.Dots.{is_dots}
 use Rattle.rom_fields.specs.Parts.{HasParts}
 use Rattle.manifest_tree.specs.Names.{Inode, Names, nothing, leaf, link, subdirectory}
-use Rattle.layout_terms.specs.Files.{height}
+use Rattle.manifest_tree.specs.Files.{height}
 use Rattle.rom_fields.proofs.Climbs.{Climbs, climbs_later, climbs_added}
 use Rattle.cramfs_layout.specs.Layout.{pad4, entry_len, list_len, root_offset, count, first_state, State, after_file}
 use Rattle.cramfs_layout.specs.Layout.{after_list, after_names, parts}

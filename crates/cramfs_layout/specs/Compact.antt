@@ -1,7 +1,7 @@
 -- `AreCompact`: sections with no room between them except what alignment needs. (This project's
 -- own.)
 use Rattle.std.specs.Prelude.{ℕ, ◌+◌, ◌<◌, List, [], ◌∷◌}
-use Rattle.layout_terms.specs.Items.{Body, contents_of, Section}
+use Rattle.manifest_tree.specs.Items.{Body, contents_of, Section}
 
 -- the alignment of a section: that of its source for contents, and 4 for all else
 abbrev pub section_align : (ℕ → ℕ) → Body → ℕ

@@ -3,8 +3,8 @@ use Rattle.std.specs.Prelude.{ℕ, ◌-◌, List, [], ◌∷◌, ◌++◌, map, 
 use Rattle.cramfs_format.specs.declared.order.Order.{Order}
 use Rattle.cramfs_format.specs.Inode.{block_count}
 use Rattle.rom_fields.specs.Parts.{Part, part, laid}
-use Rattle.layout_terms.specs.Items.{Item, Section}
-use Rattle.layout_terms.specs.Bodies.{section_part}
+use Rattle.manifest_tree.specs.Items.{Item, Section}
+use Rattle.manifest_tree.specs.Bodies.{section_part}
 use Rattle.cramfs_layout.specs.Layout.{word_bytes, pad4, pointers, with_crc}
 use Rattle.cramfs_layout.specs.Items.{sections_of}
 

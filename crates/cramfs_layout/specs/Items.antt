@@ -9,8 +9,8 @@ use Rattle.cramfs_format.specs.Inode.{block_count}
 use Rattle.cramfs_format.specs.Refers.{root_place}
 use Rattle.manifest_tree.specs.Names.{Fill, no_bytes, source, Inode, Names, nothing, leaf, link}
 use Rattle.manifest_tree.specs.Names.{subdirectory}
-use Rattle.layout_terms.specs.Items.{Item, Section, section, super, record_of, table_of}
-use Rattle.layout_terms.specs.Items.{bytes_section, in_order}
+use Rattle.manifest_tree.specs.Items.{Item, Section, section, super, record_of, table_of}
+use Rattle.manifest_tree.specs.Items.{bytes_section, in_order}
 use Rattle.cramfs_layout.specs.Layout.{first_word, second_word, third_word, pad4, size_by}
 use Rattle.cramfs_layout.specs.Layout.{entry_len, list_len, State, Kept, nowhere, shared, fresh}
 use Rattle.cramfs_layout.specs.Layout.{kept, data_of, table_by, after_file, after_list, after_names}

@@ -3,7 +3,7 @@
 use Rattle.std.specs.Prelude.{◌≢◌, ◌∷◌, ℕ, suc, ◌^◌, ◌≤◌, List, length}
 use Rattle.record_forest.specs.Members.{Pairs}
 use Rattle.manifest_tree.specs.Names.{Inode, Names}
-use Rattle.layout_terms.specs.Files.{height, files}
+use Rattle.manifest_tree.specs.Files.{height, files}
 use Rattle.cramfs_layout.specs.Layout.{size_of, count}
 use Rattle.cramfs_layout.specs.Wells.{IsDirectory, AreWell}
 

@@ -14,7 +14,7 @@ use Rattle.rom_fields.specs.Parts.{HasAt}
 use Rattle.manifest_tree.specs.Names.{no_bytes, Inode, Names, nothing, leaf, link, subdirectory}
 use Rattle.manifest_tree.specs.Names.{bytes_of}
 use Rattle.manifest_tree.specs.Names.{source}
-use Rattle.layout_terms.specs.Lists.{StandsIn, IsFree}
+use Rattle.manifest_tree.specs.Lists.{StandsIn, IsFree}
 use Rattle.cramfs_layout.specs.Layout.{size_by, entry_len, list_len, State, Table, kept, table_by}
 use Rattle.cramfs_layout.specs.Layout.{after_file, after_list, after_names, list_offset, pad4}
 use Rattle.cramfs_layout.specs.Layout.{pointers}

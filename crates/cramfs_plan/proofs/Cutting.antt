@@ -4,7 +4,7 @@ use Rattle.std.proofs.Common.{Result, Ok, Err, IfOk}
 use Rattle.std.specs.List.{AllByRecursion as Every}
 use Rattle.std.specs.List.Sorted.{IsNonDecreasingBy}
 use Rattle.std.proofs.lemmas.List.Sorted.{IsPermutation-trans, IsPermutation-map}
-use Rattle.layout_terms.specs.Items.{Item}
+use Rattle.manifest_tree.specs.Items.{Item}
 use Rattle.cramfs_plan.specs.declared.wide_inode.WideInode.{WideInode}
 use Rattle.cramfs_plan.specs.Entries.{entry_view}
 use Rattle.cramfs_plan.specs.Orders.{Rises}

@@ -9,7 +9,7 @@ use Rattle.std.proofs.lemmas.List.Elements.{recursion_from_All}
 use Rattle.record_forest.proofs.Lists.{every_weaker}
 use Rattle.manifest_tree.specs.Names.{Names, nothing, leaf, link, subdirectory}
 use Rattle.manifest_tree.specs.Tree.{a_leaf, a_link, a_directory}
-use Rattle.layout_terms.specs.Files.{height}
+use Rattle.manifest_tree.specs.Files.{height}
 use Rattle.cramfs_layout.specs.Layout.{entry_len, list_len}
 use Rattle.plan_rows.specs.declared.row.Row as code
 use Rattle.plan_rows.specs.Rows.{Row, row, rows, row_view}

@@ -6,7 +6,7 @@ use Rattle.std.proofs.lemmas.List.Sorted.{IsPermutation-refl, IsPermutation-cons
 use Rattle.std.proofs.lemmas.List.Sorted.{IsPermutation-append, IsPermutation-append_comm}
 use Rattle.cramfs_format.specs.declared.order.Order.{Order}
 use Rattle.manifest_tree.specs.Names.{Inode, Names, nothing, leaf, link, subdirectory}
-use Rattle.layout_terms.specs.Items.{Item}
+use Rattle.manifest_tree.specs.Items.{Item}
 use Rattle.cramfs_layout.specs.Layout.{pad4, entry_len, State, first_state, after_file, after_list, after_names}
 use Rattle.cramfs_layout.specs.Items.{entries, below, items_of}
 use Rattle.cramfs_layout.specs.Wells.{AreWell}

@@ -9,7 +9,7 @@ use Rattle.cramfs_format.specs.declared.order.Order.{Order}
 use Rattle.manifest_tree.specs.Names.{Inode}
 use Rattle.cramfs_layout.specs.Layout.{State, Kept, nowhere, shared, fresh, kept, after_by, after_file}
 use Rattle.cramfs_layout.specs.Items.{file_item}
-use Rattle.layout_terms.specs.Items.{Item}
+use Rattle.manifest_tree.specs.Items.{Item}
 use Rattle.manifest_tree.specs.Tree.{What, a_leaf, a_link}
 use Rattle.rom_tree.specs.declared.types.Kind.TheVariants as kind
 use Rattle.plan_rows.specs.declared.row.Bytes.TheVariants as bytes

@@ -13,8 +13,8 @@ use Rattle.std.proofs.lemmas.List.{append_assoc}
 use Rattle.std.proofs.lemmas.List.Sorted.{IsPermutation-refl, IsPermutation-cons, IsPermutation-trans}
 use Rattle.std.proofs.lemmas.List.Sorted.{IsPermutation-middle, IsPermutation-map}
 use Rattle.cramfs_format.specs.Inode.{block_count}
-use Rattle.layout_terms.specs.Items.{Item, Section, section, record_of, table_of, bytes_section, put_section, in_order}
-use Rattle.layout_terms.specs.Items.{SectionsRise}
+use Rattle.manifest_tree.specs.Items.{Item, Section, section, record_of, table_of, bytes_section, put_section, in_order}
+use Rattle.manifest_tree.specs.Items.{SectionsRise}
 use Rattle.plan_types.specs.declared.section.Section as code
 use Rattle.plan_types.specs.declared.item.Item as code_item
 use Rattle.plan_types.specs.Views.{item_view, section_view}

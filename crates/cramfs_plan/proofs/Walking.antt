@@ -7,8 +7,8 @@ use Rattle.std.proofs.lemmas.List.{get_or-set_same, get_or-set_other, length-set
 use Rattle.cramfs_format.specs.declared.order.Order.{Order}
 use Rattle.manifest_tree.specs.Names.{Names, nothing, leaf, link, subdirectory, no_bytes}
 use Rattle.manifest_tree.specs.Tree.{a_leaf, a_link, a_directory}
-use Rattle.layout_terms.specs.Files.{height}
-use Rattle.layout_terms.specs.Items.{Item}
+use Rattle.manifest_tree.specs.Files.{height}
+use Rattle.manifest_tree.specs.Items.{Item}
 use Rattle.cramfs_layout.specs.Layout.{State, entry_len, list_len, list_offset, pad4, after_list, after_names}
 use Rattle.cramfs_layout.specs.Items.{item_of}
 use Rattle.plan_rows.specs.Rows.{Row, row, rows}

@@ -12,8 +12,8 @@ use Rattle.cramfs_format.specs.Refers.{root_place}
 use Rattle.rom_fields.specs.Padding.{pad}
 use Rattle.rom_fields.proofs.Padding.{pad-after}
 use Rattle.manifest_tree.specs.Names.{Inode, Names, nothing, leaf, link, subdirectory, no_bytes}
-use Rattle.layout_terms.specs.Files.{height}
-use Rattle.layout_terms.specs.Items.{Item}
+use Rattle.manifest_tree.specs.Files.{height}
+use Rattle.manifest_tree.specs.Items.{Item}
 use Rattle.formats.specs.Format.{cramfs}
 use Rattle.cramfs_layout.specs.Layout.{State, entry_len, list_len, pad4, first_state, after_file, after_list}
 use Rattle.cramfs_layout.specs.Layout.{after_names, size_of, root_offset}

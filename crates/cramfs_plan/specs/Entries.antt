@@ -6,7 +6,7 @@ use Rattle.std.specs.BTreeMap.{BTreeMap, get}
 use Rattle.std.specs.Ordering.{nat_cmp}
 use Rattle.cramfs_format.specs.declared.order.Order.{Order}
 use Rattle.manifest_tree.specs.Names.{Fill, Inode}
-use Rattle.layout_terms.specs.Items.{Item}
+use Rattle.manifest_tree.specs.Items.{Item}
 use Rattle.cramfs_layout.specs.Layout.{Table, Kept, nowhere, shared, fresh, pad4, with_table}
 use Rattle.cramfs_layout.specs.Layout.{table_with, table_by, size_by, after_by}
 use Rattle.cramfs_layout.specs.Items.{item_of, start_by}

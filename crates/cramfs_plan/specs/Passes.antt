@@ -6,7 +6,7 @@ use Rattle.std.specs.Prelude.{slice_set, replicate}
 use Rattle.cramfs_format.specs.declared.order.Order.{Order}
 use Rattle.manifest_tree.specs.Names.{Names, nothing, leaf, link, subdirectory, no_bytes}
 use Rattle.manifest_tree.specs.Tree.{What, a_leaf, a_link, a_directory}
-use Rattle.layout_terms.specs.Items.{Item}
+use Rattle.manifest_tree.specs.Items.{Item}
 use Rattle.cramfs_layout.specs.Layout.{State, entry_len, list_len, list_offset, pad4, after_file}
 use Rattle.cramfs_layout.specs.Layout.{after_list, after_names}
 use Rattle.cramfs_layout.specs.Items.{item_of, file_item}

@@ -1,7 +1,7 @@
 -- `IsSmall`: an item whose numbers have 32 bits. `cut`: an item with its numbers cut to 32 bits.
 -- (This project's own.)
 use Rattle.std.specs.Prelude.{◌^◌, ◌%◌, ◌<◌}
-use Rattle.layout_terms.specs.Items.{Item}
+use Rattle.manifest_tree.specs.Items.{Item}
 
 pub record IsSmall (i : Item) : Type 0 where
   pub place : i.place < 2 ^ 32

@@ -6,8 +6,8 @@ use Rattle.std.specs.Prelude.{drop}
 use Rattle.std.specs.BTreeSet.{BTreeSet, contains}
 use Rattle.std.specs.Ordering.{nat_cmp}
 use Rattle.cramfs_format.specs.Inode.{block_count}
-use Rattle.layout_terms.specs.Items.{Item, Section, section, super, record_of, table_of}
-use Rattle.layout_terms.specs.Items.{bytes_section}
+use Rattle.manifest_tree.specs.Items.{Item, Section, section, super, record_of, table_of}
+use Rattle.manifest_tree.specs.Items.{bytes_section}
 use Rattle.cramfs_layout.specs.Layout.{entry_len}
 use Rattle.cramfs_layout.specs.Items.{has_table, sections_from}
 

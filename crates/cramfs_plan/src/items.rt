@@ -6,7 +6,7 @@ ghost use Rattle.cramfs_layout.specs.Items.{item_of};
 ghost use Rattle.cramfs_plan.specs.Entries.{entry_view};
 ghost use Rattle.cramfs_plan.specs.Orders.{Rises};
 ghost use Rattle.cramfs_plan.specs.Small.{IsSmall, cut};
-ghost use Rattle.layout_terms.specs.Items as terms;
+ghost use Rattle.manifest_tree.specs.Items as terms;
 ghost use Rattle.manifest_tree.specs.Names.{no_bytes};
 ghost use Rattle.plan_rows.specs.Rows.{bytes_view, inode_view};
 ghost use Rattle.plan_types.specs.Views.{fill_view, item_view};

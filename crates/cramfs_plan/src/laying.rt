@@ -10,7 +10,7 @@ ghost use Rattle.cramfs_plan.specs.Entries.{entry_view};
 ghost use Rattle.cramfs_plan.specs.Orders.{Rises};
 ghost use Rattle.cramfs_plan.specs.Small.{IsSmall};
 ghost use Rattle.cramfs_plan.specs.Wholes.{is_long_list, too_large};
-ghost use Rattle.layout_terms.specs.Items as terms;
+ghost use Rattle.manifest_tree.specs.Items as terms;
 ghost use Rattle.formats.specs.Format.{cramfs};
 ghost use Rattle.manifest_tree.specs.Names.{Names, no_bytes};
 ghost use Rattle.plan_rows.specs.Fits.{IsFit};

@@ -4,8 +4,8 @@ ghost use Rattle.std.specs.Prelude.{◌≡◌, ◌*◌, ◌<◌, ◌++◌, ℕ, 
 ghost use Rattle.cramfs_format.specs.Inode.{block_count};
 ghost use Rattle.cramfs_layout.specs.Items.{sections_of};
 ghost use Rattle.cramfs_plan.specs.Tables.{own_sections, unsorted};
-ghost use Rattle.layout_terms.specs.Items as terms;
-ghost use Rattle.layout_terms.specs.Items.{SectionsRise, bytes_section};
+ghost use Rattle.manifest_tree.specs.Items as terms;
+ghost use Rattle.manifest_tree.specs.Items.{SectionsRise, bytes_section};
 ghost use Rattle.plan_types.specs.Views.{item_view, section_view};
 
 use crate::words::entry_len;

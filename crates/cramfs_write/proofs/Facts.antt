@@ -4,7 +4,7 @@ use Rattle.cramfs_format.specs.declared.order.Order.{Order}
 use Rattle.manifest.specs.Grammar.{IsManifest}
 use Rattle.manifest.specs.Lines.{ManifestLines, sources_of}
 use Rattle.manifest_tree.specs.Tree.{tree_of, root_of}
-use Rattle.layout_terms.proofs.Sections.{order_every}
+use Rattle.manifest_tree.proofs.Sections.{order_every}
 use Rattle.cramfs_layout.specs.Layout.{first_state}
 use Rattle.cramfs_layout.specs.Items.{AreAlignedBy, entries, below, items_of, sections_from}
 use Rattle.cramfs_layout.specs.Planned.{IsPlanned}

@@ -5,7 +5,7 @@ use Rattle.record_forest.proofs.Lists.{every_join, every_weaker, every_both}
 use Rattle.cramfs_format.specs.declared.order.Order.{Order}
 use Rattle.rom_fields.proofs.Padding.{pad-after}
 use Rattle.manifest_tree.specs.Names.{Inode, Names, nothing, leaf, link, subdirectory, bytes_of}
-use Rattle.layout_terms.specs.Items.{Item}
+use Rattle.manifest_tree.specs.Items.{Item}
 use Rattle.cramfs_layout.specs.Layout.{pad4, entry_len, State, Kept, nowhere, shared, fresh, kept, after_by, after_file}
 use Rattle.cramfs_layout.specs.Layout.{after_list, after_names, first_state, size_of}
 use Rattle.cramfs_layout.specs.Items.{AreAlignedBy, entries, below}

@@ -4,7 +4,7 @@ use Rattle.std.proofs.Common.{arith}
 use Rattle.std.proofs.lemmas.List.{length-map}
 use Rattle.cramfs_format.specs.declared.order.Order.{Order}
 use Rattle.image_stream.specs.Segments.{len, outline, segment_at}
-use Rattle.layout_terms.specs.Items.{Item, Section}
+use Rattle.manifest_tree.specs.Items.{Item, Section}
 use Rattle.plan_types.specs.declared.section.Body as code_body
 use Rattle.plan_types.specs.declared.section.Body.TheVariants.{Super, Record, Table, Text, Content}
 use Rattle.plan_types.specs.Views.{body_view}

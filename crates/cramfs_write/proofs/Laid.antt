@@ -11,9 +11,9 @@ use Rattle.image_stream.specs.Sources.{content_of}
 use Rattle.image_stream.specs.Segments.{place, len, segment_at, segment_part, SegmentsRise, HasSource, IsLaidOut}
 use Rattle.image_stream.specs.Outcomes.{AreSized}
 use Rattle.manifest_tree.specs.Names.{Fill, bytes_of}
-use Rattle.layout_terms.specs.Items.{Item, Section, Body, super, record_of, table_of, text_of, contents_of}
-use Rattle.layout_terms.specs.Items.{SectionsRise}
-use Rattle.layout_terms.specs.Bodies.{item_at}
+use Rattle.manifest_tree.specs.Items.{Item, Section, Body, super, record_of, table_of, text_of, contents_of}
+use Rattle.manifest_tree.specs.Items.{SectionsRise}
+use Rattle.manifest_tree.specs.Bodies.{item_at}
 use Rattle.plan_types.specs.Plans.{Planned}
 use Rattle.cramfs_layout.specs.Layout.{with_crc}
 use Rattle.cramfs_layout.specs.Composed.{cramfs_part}

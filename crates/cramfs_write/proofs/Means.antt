@@ -10,8 +10,8 @@ use Rattle.image_stream.specs.Outcomes.{AreSized}
 use Rattle.image_stream.proofs.Laid.{image_laid}
 use Rattle.manifest_tree.specs.Names.{Inode, Names, nothing, leaf, link, subdirectory}
 use Rattle.plan_types.specs.Plans.{Planned, IsPlanOf}
-use Rattle.layout_terms.specs.Items.{Section, section, super}
-use Rattle.layout_terms.specs.Bodies.{item_at}
+use Rattle.manifest_tree.specs.Items.{Section, section, super}
+use Rattle.manifest_tree.specs.Bodies.{item_at}
 use Rattle.manifest.specs.Grammar.{IsManifest}
 use Rattle.manifest.specs.Lines.{ManifestLines}
 use Rattle.manifest_tree.specs.Tree.{tree_of, root_of}

@@ -7,9 +7,9 @@ use Rattle.std.specs.List.{AllByRecursion as Every}
 use Rattle.record_forest.proofs.Lists.{every_join}
 use Rattle.cramfs_format.specs.Inode.{block_count}
 use Rattle.manifest_tree.specs.Names.{Fill, no_bytes, text, source, bytes_of}
-use Rattle.layout_terms.specs.Items.{Item, Section, section, table_of, fill_section}
-use Rattle.layout_terms.specs.Bodies.{item_at}
-use Rattle.layout_terms.proofs.Bodies.{item_here, items_later}
+use Rattle.manifest_tree.specs.Items.{Item, Section, section, table_of, fill_section}
+use Rattle.manifest_tree.specs.Bodies.{item_at}
+use Rattle.manifest_tree.proofs.Bodies.{item_here, items_later}
 use Rattle.cramfs_layout.specs.Layout.{entry_len}
 use Rattle.cramfs_layout.specs.Items.{has_table, table_sections, sections_from}
 use Rattle.plan_types.proofs.Sized.{size_is}

@@ -7,9 +7,9 @@ use Rattle.cramfs_layout.specs.Composed.{written, table}
 use Rattle.cramfs_layout.specs.Layout.{word_bytes, pad4, flags}
 use Rattle.image_stream.specs.Segments.{Segment, fixed, content, Form}
 use Rattle.plan_types.specs.Plans.{Planned}
-use Rattle.layout_terms.specs.Bodies.{item_at}
-use Rattle.layout_terms.specs.Items.{Item, Section, Body, super, record_of, table_of, text_of}
-use Rattle.layout_terms.specs.Items.{contents_of}
+use Rattle.manifest_tree.specs.Bodies.{item_at}
+use Rattle.manifest_tree.specs.Items.{Item, Section, Body, super, record_of, table_of, text_of}
+use Rattle.manifest_tree.specs.Items.{contents_of}
 use Rattle.manifest_tree.specs.Names.{bytes_of}
 
 -- the three words of an inode

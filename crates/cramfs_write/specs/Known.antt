@@ -4,9 +4,9 @@ use Rattle.std.specs.List.{AllByRecursion as Every}
 use Rattle.cramfs_format.specs.Inode.{block_count}
 use Rattle.cramfs_layout.specs.Layout.{entry_len}
 use Rattle.plan_types.specs.Plans.{Planned}
-use Rattle.layout_terms.specs.Bodies.{item_at}
-use Rattle.layout_terms.specs.Items.{Item, Body, super, record_of, table_of, text_of, contents_of}
-use Rattle.layout_terms.specs.Items.{section, SectionsRise}
+use Rattle.manifest_tree.specs.Bodies.{item_at}
+use Rattle.manifest_tree.specs.Items.{Item, Body, super, record_of, table_of, text_of, contents_of}
+use Rattle.manifest_tree.specs.Items.{section, SectionsRise}
 use Rattle.manifest_tree.specs.Names.{text}
 
 -- the contents of a section of this length: an inode, a table of pointers to blocks below 2^28, a

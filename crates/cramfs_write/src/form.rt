@@ -6,7 +6,7 @@ ghost use Rattle.cramfs_format.specs.declared.order.Order.{Order};
 ghost use Rattle.cramfs_layout.specs.Composed.{written, table};
 ghost use Rattle.cramfs_layout.specs.Layout.{entry_len};
 ghost use Rattle.image_stream.specs.Segments.{fixed};
-ghost use Rattle.layout_terms.specs.Items.{section, super};
+ghost use Rattle.manifest_tree.specs.Items.{section, super};
 ghost use Rattle.formats.specs.Format.{cramfs};
 ghost use Rattle.manifest_tree.specs.Names.{bytes_of};
 ghost use Rattle.plan_types.specs.Views.{fill_view, item_view, section_view};

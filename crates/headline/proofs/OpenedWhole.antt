@@ -7,7 +7,7 @@ use Rattle.std.proofs.lemmas.Bool.Decides.{nat_tests}
 use Rattle.rom_tree.specs.Image.{Image}
 use Rattle.rom_tree.specs.Tree.{Node, node, directory, regular, symlink, block, character, socket, fifo, places_of}
 use Rattle.rom_tree.specs.Tree.{is_directory, is_regular, is_link}
-use Rattle.layout_terms.specs.Placement.{IsRun}
+use Rattle.manifest_tree.specs.Placement.{IsRun}
 use Rattle.manifest.specs.Lines.{ManifestLines}
 use Rattle.manifest.specs.Paths.{names_of}
 use Rattle.manifest_layout.specs.Placement.{IsPlaced}

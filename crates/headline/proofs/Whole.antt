@@ -7,7 +7,7 @@ use Rattle.std.proofs.lemmas.List.{take_all}
 use Rattle.rom_tree.specs.Image.{Image}
 use Rattle.rom_tree.specs.Tree.{Node, node, directory, regular, symlink, block, character, socket, fifo, places_of}
 use Rattle.rom_tree.specs.Tree.{is_directory, row_from}
-use Rattle.layout_terms.specs.Placement.{IsRun}
+use Rattle.manifest_tree.specs.Placement.{IsRun}
 use Rattle.headline.specs.Lent.{IsMappedWhole}
 use Rattle.open_files.specs.Calls.{Lent, Of}
 use Rattle.open_files.specs.Lending.{first_place, consecutive_from, consecutive, lent}

@@ -5,7 +5,7 @@ use Rattle.atomic_file.specs.Log.{Event}
 use Rattle.atomic_file.specs.Crashes.{Place, Made, Whole, made, content}
 use Rattle.image_build.specs.Streamed.{image_with}
 use Rattle.image_check.specs.Checked.{IsFaultless}
-use Rattle.image_file.specs.Images.{IsImageWritten}
+use Rattle.image_build.specs.Images.{IsImageWritten}
 use Rattle.plan_types.specs.Plans.{Planned}
 use Rattle.rom_commands.specs.Answers.{usual_limits}
 

@@ -8,7 +8,7 @@ ghost use Rattle.headline.specs.Durable.{IsImageOf, IsBuiltFile};
 ghost use Rattle.image_build.specs.Streamed.{IsPlanOfText};
 ghost use Rattle.plan_types.specs.Plans.{Planned};
 
-/// States what follows of each moment that `image_file::put` promises, in a directory whose files
+/// States what follows of each moment that `image_build::put` promises, in a directory whose files
 /// report their bytes: the name of the file leads to what it did, or to a whole image of the
 /// manifest's plan, in which a check finds no fault. A crash leaves what it might have left before,
 /// or such an image.

@@ -7,10 +7,10 @@ use Rattle.romfs_format.specs.Record.{pad16}
 use Rattle.rom_tree.specs.Dots.{dot, dot_dot}
 use Rattle.manifest_tree.specs.Names.{Fill, no_bytes, text, source, Inode, Names, nothing, leaf, link, subdirectory}
 use Rattle.manifest_tree.specs.Names.{bytes_of}
-use Rattle.layout_terms.specs.Files.{files, Placed, at_place}
-use Rattle.layout_terms.specs.Items.{Item, Section, Body, super, record_of, table_of, text_of, contents_of}
-use Rattle.layout_terms.specs.Items.{fill_section, bytes_section}
-use Rattle.layout_terms.specs.Bodies.{item_at}
+use Rattle.manifest_tree.specs.Files.{files, Placed, at_place}
+use Rattle.manifest_tree.specs.Items.{Item, Section, Body, super, record_of, table_of, text_of, contents_of}
+use Rattle.manifest_tree.specs.Items.{fill_section, bytes_section}
+use Rattle.manifest_tree.specs.Bodies.{item_at}
 use Rattle.romfs_layout.specs.Layout.{Header, header_alone, header_bytes, headers, all_headers, leaf_end, header_end}
 use Rattle.romfs_layout.specs.Layout.{ends, first_place, place_with, placed, place_of, data_align, code_of, device_of}
 use Rattle.romfs_layout.specs.Layout.{record_len}

@@ -2,8 +2,8 @@
 use Rattle.std.proofs.Common.{◌≡◌, ℕ, nat_lt, true, false, cond, List, [], ◌∷◌}
 use Rattle.std.specs.List.{AllByRecursion as Every}
 use Rattle.record_forest.specs.Members.{Pairs}
-use Rattle.layout_terms.specs.Items.{Section, contents_of, put_section, in_order}
-use Rattle.layout_terms.proofs.Sections.{order_every}
+use Rattle.manifest_tree.specs.Items.{Section, contents_of, put_section, in_order}
+use Rattle.manifest_tree.proofs.Sections.{order_every}
 
 -- they do not have the contents of one source
 abbrev pub Differ : Section → Section → Type 0

@@ -11,7 +11,7 @@ use Rattle.manifest.specs.Lines.{ManifestLines, sources_of}
 use Rattle.manifest_tree.specs.Names.{Fill, no_bytes, text, source, Inode, Names, nothing, leaf, link, subdirectory}
 use Rattle.manifest_tree.specs.Names.{bytes_of}
 use Rattle.manifest_tree.specs.Tree.{tree_of, root_of}
-use Rattle.layout_terms.specs.Files.{files}
+use Rattle.manifest_tree.specs.Files.{files}
 use Rattle.formats.specs.Format.{romfs}
 use Rattle.manifest_layout.specs.Misfit.{HasNoMisfit}
 use Rattle.romfs_layout.specs.Layout.{root_at, full_size_of, all_headers, layout}

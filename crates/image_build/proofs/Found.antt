@@ -7,9 +7,9 @@ use Rattle.std.specs.List.{AllByRecursion as Every}
 use Rattle.record_forest.specs.Members.{Pairs}
 use Rattle.record_forest.proofs.Lists.{every_weaker, every_join, every_left, every_right}
 use Rattle.image_stream.specs.Sources.{content_of}
-use Rattle.layout_terms.specs.Files.{files}
-use Rattle.layout_terms.specs.Items.{Item, Section, Body, super, record_of, table_of, text_of, contents_of}
-use Rattle.layout_terms.specs.Items.{fill_section, bytes_section}
+use Rattle.manifest_tree.specs.Files.{files}
+use Rattle.manifest_tree.specs.Items.{Item, Section, Body, super, record_of, table_of, text_of, contents_of}
+use Rattle.manifest_tree.specs.Items.{fill_section, bytes_section}
 use Rattle.manifest_tree.specs.Names.{Fill, no_bytes, text, source, Inode, Names, nothing, leaf, link, subdirectory}
 use Rattle.romfs_format.specs.Record.{pad16}
 use Rattle.romfs_layout.specs.Items.{item_of, sections_from}

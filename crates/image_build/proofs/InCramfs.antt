@@ -9,7 +9,7 @@ use Rattle.record_forest.proofs.Lists.{every_weaker, every_join, every_of, pairs
 use Rattle.cramfs_format.specs.declared.order.Order.{Order}
 use Rattle.cramfs_format.specs.Inode.{block_count}
 use Rattle.manifest_tree.specs.Names.{Fill, no_bytes, text, source, Inode, Names, nothing, leaf, link, subdirectory}
-use Rattle.layout_terms.specs.Items.{Item, Section, section, record_of, table_of, contents_of, fill_section}
+use Rattle.manifest_tree.specs.Items.{Item, Section, section, record_of, table_of, contents_of, fill_section}
 use Rattle.cramfs_layout.specs.Layout.{pad4, entry_len, State, Table, table_with, Kept, nowhere, shared, fresh, kept}
 use Rattle.cramfs_layout.specs.Layout.{kept_by, kept_with, with_table, after_by, after_file, after_list, after_names}
 use Rattle.cramfs_layout.specs.Items.{entries, below, kept_item, has_table, table_sections, sections_from}

@@ -6,8 +6,8 @@ use Rattle.record_forest.proofs.Lists.{every_weaker, every_join, every_left, eve
 use Rattle.record_forest.proofs.Lists.{pairs_left, pairs_right, pairs_cross}
 use Rattle.romfs_format.specs.Record.{pad16}
 use Rattle.manifest_tree.specs.Names.{Fill, no_bytes, text, source, Inode, Names, nothing, leaf, link, subdirectory}
-use Rattle.layout_terms.specs.Files.{files}
-use Rattle.layout_terms.specs.Items.{Section, section, record_of, contents_of, fill_section, bytes_section}
+use Rattle.manifest_tree.specs.Files.{files}
+use Rattle.manifest_tree.specs.Items.{Section, section, record_of, contents_of, fill_section, bytes_section}
 use Rattle.romfs_layout.specs.Layout.{Header, headers, all_headers, leaf_end, header_end, ends, place_with, placed}
 use Rattle.romfs_layout.specs.Layout.{record_len}
 use Rattle.romfs_layout.specs.Items.{item_of, sections_from}

@@ -15,7 +15,7 @@ use Rattle.manifest_tree.specs.Names.{Fill, no_bytes, text, source, Inode, Names
 use Rattle.manifest_tree.specs.Names.{bytes_of}
 use Rattle.manifest_tree.specs.Shape.{Value, Named, with_names, find_name, file_under, file_value, HasShape}
 use Rattle.manifest_tree.specs.Tree.{tree_of, root_of, file_named}
-use Rattle.layout_terms.specs.Files.{files}
+use Rattle.manifest_tree.specs.Files.{files}
 use Rattle.romfs_layout.specs.Wells.{AreLinks, file_of}
 use Rattle.cramfs_layout.specs.Wells.{AreWell}
 use Rattle.cramfs_layout.specs.Planned.{IsPlanned}

@@ -1,7 +1,7 @@
 -- An image of segments is one of segments with other sources.
 use Rattle.std.proofs.Common.{◌≡◌, ℕ, ◌+◌, List, [], ◌∷◌, map, sym, ap, subst, ◌∙◌}
-use Rattle.layout_terms.specs.Items.{Item, Section, Body, super, record_of, table_of, text_of, contents_of}
-use Rattle.layout_terms.specs.Bodies.{item_at}
+use Rattle.manifest_tree.specs.Items.{Item, Section, Body, super, record_of, table_of, text_of, contents_of}
+use Rattle.manifest_tree.specs.Bodies.{item_at}
 use Rattle.image_stream.specs.Segments.{Segment, fixed, content, place, len}
 use Rattle.romfs_write.specs.Form.{segment_by, segment_of}
 use Rattle.image_build.proofs.Bodies.{IsOf}

@@ -15,7 +15,7 @@ use Rattle.manifest_tree.specs.Tree.{What, a_leaf, a_link, a_directory, what_by,
 use Rattle.manifest_tree.specs.Tree.{inode_by}
 use Rattle.manifest_tree.specs.Tree.{inode_of, grown, tree_of}
 use Rattle.manifest_tree.proofs.Law.{grown_by}
-use Rattle.layout_terms.specs.Files.{files}
+use Rattle.manifest_tree.specs.Files.{files}
 use Rattle.formats.specs.Format.{Format}
 use Rattle.manifest_layout.specs.Misfit.{HasNoMisfit}
 use Rattle.manifest_layout.proofs.Sorted.{HoldAll, last_of}

@@ -10,8 +10,8 @@ use Rattle.record_forest.proofs.Lists.{every_map, pairs_map, every_left, every_r
 use Rattle.romfs_format.specs.Record.{pad16}
 use Rattle.manifest_tree.specs.Names.{Fill, no_bytes, text, source, Inode, Names, nothing, leaf, link, subdirectory}
 use Rattle.manifest_tree.specs.Names.{bytes_of}
-use Rattle.layout_terms.specs.Files.{files, height}
-use Rattle.layout_terms.specs.Lists.{IsFree, StandsIn}
+use Rattle.manifest_tree.specs.Files.{files, height}
+use Rattle.manifest_tree.specs.Lists.{IsFree, StandsIn}
 use Rattle.romfs_layout.specs.Layout.{headers, leaf_end, header_end, ends, first_place, place_with, placed, place_of}
 use Rattle.romfs_layout.specs.Layout.{data_align, root_at}
 use Rattle.romfs_layout.specs.Wells.{FitsKind, IsFile, IsDirectory, AreWell, AreLinks, file_of}

@@ -6,7 +6,7 @@ use Rattle.manifest.specs.Lines.{ManifestLines}
 use Rattle.manifest_tree.specs.Names.{Inode, Names}
 use Rattle.manifest_tree.specs.Shape.{with_names}
 use Rattle.manifest_tree.specs.Tree.{tree_of, root_of}
-use Rattle.layout_terms.specs.Placement.{AreInRuns}
+use Rattle.manifest_tree.specs.Placement.{AreInRuns}
 use Rattle.formats.specs.Format.{Format, romfs, cramfs}
 use Rattle.manifest_layout.specs.Format.{HasUsualTree}
 use Rattle.manifest_layout.specs.Placement.{CopiesStand, HasVolume, IsPlaced}

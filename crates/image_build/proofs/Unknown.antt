@@ -7,7 +7,7 @@ use Rattle.crc.specs.Crc.{crc_of}
 use Rattle.manifest.specs.Grammar.{IsManifest}
 use Rattle.manifest.specs.Lines.{ManifestLines}
 use Rattle.manifest_tree.specs.Tree.{tree_of, root_of}
-use Rattle.layout_terms.specs.Items.{Item, Section, Body, super, record_of, table_of, text_of, contents_of}
+use Rattle.manifest_tree.specs.Items.{Item, Section, Body, super, record_of, table_of, text_of, contents_of}
 use Rattle.cramfs_layout.specs.Layout as cramfs_layout
 use Rattle.cramfs_layout.specs.Items as cramfs_items
 use Rattle.romfs_layout.specs.Layout as romfs_layout

@@ -3,3 +3,5 @@ pub mod Accepted
 pub mod Streamed
 pub mod Streams
 pub mod Each
+pub mod Images
+pub mod Paddings

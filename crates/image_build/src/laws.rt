@@ -1,16 +1,21 @@
 //! Laws on what is built.
-ghost use Rattle.std.specs.Prelude.{◌≡◌, ◌≢◌, ℕ, List, Option, map, length, Result, Ok, Err};
+ghost use Rattle.std.specs.Prelude.{ℕ, ◌≡◌, ◌≢◌, Err, List, Ok, Option, Result, length, map};
+ghost use Rattle.atomic_file.specs.Log.{Event};
+ghost use Rattle.atomic_file.specs.Moments.{IsOldOrNew};
+ghost use Rattle.atomic_file.specs.declared.names.Names.{Names};
+ghost use Rattle.formats.specs.Format.{Format};
 ghost use Rattle.image_build.specs.Accepted.{usual};
 ghost use Rattle.image_build.specs.Builds.{Builds};
 ghost use Rattle.image_build.specs.Each.{AreRead, IsMeantEach};
+ghost use Rattle.image_build.specs.Images.{IsCheckedImage, IsImageWritten};
 ghost use Rattle.image_build.specs.Streamed.{HasNoCopies, IsBuiltOfSome, IsPlanOfText, form_in};
 ghost use Rattle.image_build.specs.Streamed.{image_with, stored_in};
 ghost use Rattle.image_build.specs.declared.error.BuildError.{BuildError};
+ghost use Rattle.image_build.specs.declared.padding.Padding.{Padding};
 ghost use Rattle.image_check.specs.Checked.{HasTree, IsFaultless, IsRefused};
 ghost use Rattle.image_stream.specs.Outcomes.{IsWritten};
 ghost use Rattle.manifest.specs.Grammar.{manifest_of};
 ghost use Rattle.manifest.specs.Lines.{ManifestLines};
-ghost use Rattle.formats.specs.Format.{Format};
 ghost use Rattle.manifest_layout.specs.Format.{HasUsualTree};
 ghost use Rattle.manifest_layout.specs.Placement.{CopiesStand, HasVolume, IsPlaced};
 ghost use Rattle.manifest_layout.specs.Sealed.{HasSeal};
@@ -18,6 +23,9 @@ ghost use Rattle.manifest_tree.specs.Meant.{IsMeant};
 ghost use Rattle.plan_types.specs.Plans.{Planned};
 ghost use Rattle.rom_faults.specs.declared.error.CheckError.{CheckError};
 ghost use Rattle.rom_tree.specs.Tree.{Node};
+
+use crate::image::LastCheck;
+use image_stream::Sources;
 
 /// Shows that a build has exactly one answer to each text and contents, apart from the refusal of
 /// memory. So it refuses exactly if it may.
@@ -140,3 +148,14 @@ pub fn streamed_is_placed()
     romfs_layout::laws::layout_is_placed();
     image_check::laws::one_tree();
 }
+
+/// States that a file that is what it was or a checked image, without bytes after it, is what it
+/// was or an image.
+pub fn checked_is_written<S: Sources, K: LastCheck>()
+    ensures { (names : Names) (last : K) (padding : Padding) (known : Option (List (List ℕ)))
+        (was is : S) (p : Planned) (fresh : Option (List ℕ)) (old log : List Event)
+        → padding.len ≡ 0
+        → IsOldOrNew names (IsCheckedImage (K.passed last) padding known (S.IsLog was)
+        (S.IsLog is) p fresh) old log
+        → IsOldOrNew names (IsImageWritten known (S.IsLog was) (S.IsLog is) p fresh) old log }
+{}

@@ -7,3 +7,5 @@ pub mod Volumes
 pub mod Tallies
 pub mod Info
 pub mod Endings
+pub mod Description
+pub mod Images

@@ -11,6 +11,11 @@
 //!
 //! A caller of `map`, proved: library_tests/src/examples/mapped.rt. `cat` requires the number of a
 //! node of the image, which `path_walk::walk` returns.
+//!
+//! `Numbers` is the description of a checked image: 48 bytes, from which the library for C opens
+//! the same bytes without a check. Proved: the numbers are those of the image's tree, and what is
+//! written is exactly the description of `specs/Description.antt`, as bytes or as an array of C, or
+//! a prefix of it if a write failed.
 #![tactic(auto)]
 
 mod by_format;
@@ -22,6 +27,9 @@ pub mod laws;
 mod line;
 mod map_line;
 mod mapping;
+mod number_words;
+mod number_writing;
+mod numbers;
 mod runs;
 mod spans;
 mod superblock;
@@ -32,3 +40,5 @@ pub use contents::cat;
 pub use digits::put_eight_digits;
 pub use info::{InfoError, write_info};
 pub use mapping::map;
+pub use number_writing::{write_number_array, write_numbers};
+pub use numbers::Numbers;

@@ -13,3 +13,9 @@ pub mod Sourced
 pub mod Taken
 pub mod Upwards
 pub mod Ways
+mod Made
+mod Wanted
+mod Indexed
+mod Known
+mod Apart
+mod Extractable

@@ -7,3 +7,7 @@ pub mod Open
 pub mod Sources
 pub mod Describable
 pub mod Known
+pub mod Rights
+pub mod ExtractedMembers
+pub mod Chosen
+pub mod ExtractedKnown

@@ -1,20 +1,26 @@
 //! Laws on the manifest of an image.
-ghost use Rattle.std.specs.Prelude.{◌≡◌, ◌<◌, ℕ, List, [], Ok, false, length, map};
-ghost use Rattle.std.specs.List.{All};
+ghost use Rattle.std.specs.List.{All, IsDistinct};
+ghost use Rattle.std.specs.Prelude.{ℕ, ◌<◌, ◌≡◌, List, Ok, [], false, length, map};
+ghost use Rattle.std.specs.Str.{bytes_eq};
+ghost use Rattle.image_manifest.specs.ByPaths.{IsByPaths};
+ghost use Rattle.image_manifest.specs.Describable.{AreValid, HaveNoZeros, IsDescribable};
+ghost use Rattle.image_manifest.specs.Describable.{IsDescribedWhole, IsLawfulTree};
+ghost use Rattle.image_manifest.specs.ExtractedMembers.{made_in, members_in};
+ghost use Rattle.image_manifest.specs.Lines.{member_lines};
+ghost use Rattle.image_manifest.specs.Members.{has_long_path};
+ghost use Rattle.image_manifest.specs.Sources.{AreSources, file_contents};
+ghost use Rattle.image_manifest.specs.declared.giving.Giving.{Giving};
+ghost use Rattle.image_manifest.specs.declared.rules.FileRules.{FileRules};
 ghost use Rattle.manifest.specs.Grammar.{manifest_of};
-ghost use Rattle.manifest.specs.Printed.{AreTaken, IsVolume, as_read};
-ghost use Rattle.manifest.specs.Printed.{first_number, manifest_text};
+ghost use Rattle.manifest.specs.Printed.{AreTaken, IsVolume, as_read, first_number, manifest_text};
 ghost use Rattle.manifest_tree.specs.Meant.{IsMeant};
 ghost use Rattle.manifest_tree.specs.Shape.{HasShape};
 ghost use Rattle.manifest_tree.specs.Tree.{root_of, tree_of};
 ghost use Rattle.rom_tree.specs.Image.{Image};
-ghost use Rattle.image_manifest.specs.ByPaths.{IsByPaths};
-ghost use Rattle.image_manifest.specs.Lines.{member_lines};
-ghost use Rattle.image_manifest.specs.Members.{has_long_path};
-ghost use Rattle.image_manifest.specs.Sources.{AreSources, file_contents};
-ghost use Rattle.image_manifest.specs.Describable.{AreValid, HaveNoZeros, IsDescribable};
-ghost use Rattle.image_manifest.specs.Describable.{IsDescribedWhole};
-ghost use Rattle.image_manifest.specs.declared.rules.FileRules.{FileRules};
+ghost use Rattle.rom_tree.specs.Names.{Name, names};
+ghost use Rattle.tree_extract.specs.Choices.{IsFit};
+ghost use Rattle.tree_extract.specs.Members.{AreMembers};
+ghost use Rattle.tree_extract.specs.declared.tree.Kind.{Kind};
 
 /// Shows that the image's manifest is valid and has exactly the lines of the image's names,
 /// numbered in their order, and this volume. The grammar has to accept each line behind those
@@ -86,3 +92,16 @@ pub fn described_whole()
     lines_are_taken();
     sources_are_files();
 }
+
+/// Shows that the names of an image with a lawful tree can be extracted, and so can some of them.
+pub fn can_be_extracted()
+    ensures all { (g : Giving) (m : Image) → IsLawfulTree m.tree → AreMembers (members_in g m) }
+    ensures some { (g : Giving) (m : Image) (ks : List Kind) → IsLawfulTree m.tree
+        → IsFit (members_in g m) ks → AreMembers (made_in g m ks) }
+{}
+
+/// Shows that no two names of an image with a lawful tree have one path.
+pub fn paths_differ()
+    ensures { (m : Image) → IsLawfulTree m.tree
+        → IsDistinct bytes_eq (map (λ (n : Name). n.path) (names m.tree)) }
+{}

@@ -10,7 +10,7 @@ use Rattle.manifest.specs.Grammar.{IsManifest}
 use Rattle.manifest.specs.Lines.{ManifestLines}
 use Rattle.manifest_tree.specs.Names.{Inode}
 use Rattle.manifest_tree.specs.Tree.{tree_of, root_of}
-use Rattle.layout_terms.specs.Items.{Item}
+use Rattle.manifest_tree.specs.Items.{Item}
 use Rattle.romfs_layout.specs.Layout.{full_size_of, root_at}
 use Rattle.romfs_layout.specs.Items as romfs_items
 use Rattle.romfs_layout.specs.Planned as romfs_planned

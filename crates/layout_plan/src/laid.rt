@@ -2,7 +2,7 @@
 ghost use Rattle.std.specs.List.{AllByRecursion as Every};
 ghost use Rattle.std.specs.Prelude.{◌≡◌, ◌<◌, ℕ, List, map, length, IfOk, MatchOption};
 ghost use Rattle.layout_plan.specs.Ready.{IsReady};
-ghost use Rattle.layout_terms.specs.Items as terms;
+ghost use Rattle.manifest_tree.specs.Items as terms;
 ghost use Rattle.manifest.specs.Grammar.{IsManifest};
 ghost use Rattle.manifest.specs.Lines.{ManifestLines};
 ghost use Rattle.formats.specs.Format.{romfs, cramfs};

@@ -1,2 +1,3 @@
 mod Known
 mod Mountable
+pub mod Answering

@@ -6,43 +6,31 @@
 //! that outlive them; mounts; how many names a cache holds; and the texts of errors. Small images
 //! are laid out byte by byte, by the descriptions of the formats (Linux
 //! Documentation/filesystems/romfs.rst and cramfs.rst). No crate depends on this one.
+//!
+//! `Sample` is a small image in memory that implements `TreeImage` with proof: each call answers as
+//! the tree of `specs/Sample.antt` does. It has a node of each kind, nested directories, a node
+//! with two names, and names and a link's text that need escapes.
 #![tactic(auto)]
 
-#[cfg(test)]
 mod cached;
-#[cfg(test)]
 mod checked;
-#[cfg(test)]
 mod elf;
-#[cfg(test)]
 mod errors;
-#[cfg(test)]
 mod examples;
-#[cfg(test)]
 mod failing;
-#[cfg(test)]
 mod files;
-#[cfg(test)]
 mod images;
-#[cfg(test)]
 mod layers;
-#[cfg(test)]
 mod limits;
-#[cfg(test)]
 mod lister;
-#[cfg(test)]
 mod made;
-#[cfg(test)]
 mod mounted;
-#[cfg(test)]
 mod opener;
-#[cfg(test)]
 mod replaced;
-#[cfg(test)]
 mod sample;
-#[cfg(test)]
+mod sample_image;
 mod spoiled;
-#[cfg(test)]
 mod streams;
-#[cfg(test)]
 mod words;
+
+pub use sample_image::Sample;

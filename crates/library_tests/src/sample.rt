@@ -1,7 +1,7 @@
 //! The list of the image in memory of `sample_image`, which has a node of each kind.
+use crate::sample_image::Sample;
 use rom_fields::Plain;
 use rom_tree::list;
-use sample_image::Sample;
 
 const LISTED: &[u8] = b"1 d 0755 1000 100 0 0 0 /
 2 d 0700 1000 100 0 0 0 /bin

@@ -13,7 +13,7 @@ use Rattle.manifest.specs.Lines.{ManifestLines, is_hard}
 use Rattle.manifest.specs.Paths.{names_of}
 use Rattle.manifest_tree.specs.Names.{Inode, Names, nothing, leaf, link, subdirectory}
 use Rattle.manifest_tree.specs.Tree.{inode_of, tree_of}
-use Rattle.layout_terms.specs.Files.{height}
+use Rattle.manifest_tree.specs.Files.{height}
 use Rattle.romfs_format.specs.Tree.{mode_named}
 use Rattle.romfs_layout.specs.Layout.{number_of, runnable}
 use Rattle.cramfs_layout.specs.Layout.{list_len}

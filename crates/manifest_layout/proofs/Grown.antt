@@ -17,7 +17,7 @@ use Rattle.manifest_tree.specs.Tree.{What, put_at, what_by, put_line, inode_by, 
 use Rattle.manifest_tree.proofs.Found.{found, is_parent}
 use Rattle.manifest_tree.proofs.Law.{as_found, found_by, HaveFiles, grown_by, one_more, tree_found, parent_there}
 use Rattle.manifest_tree.proofs.Law.{none_named, fewer}
-use Rattle.layout_terms.specs.Files.{files}
+use Rattle.manifest_tree.specs.Files.{files}
 use Rattle.manifest_layout.proofs.Sorted.{AreSorted, HoldAll, MoreFiles, put_at_sorted, put_at_hold, put_at_files}
 use Rattle.manifest_layout.proofs.Sorted.{last_of}
 use Rattle.manifest_layout.proofs.Led.{IsFaultless, HasFile}

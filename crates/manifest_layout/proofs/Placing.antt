@@ -25,7 +25,7 @@ use Rattle.manifest_tree.specs.Shape.{file_under, with_names}
 use Rattle.manifest_tree.specs.Tree.{with_contents, inode_by, inode_of, file_at, root_of, tree_of, names_eq, is_named}
 use Rattle.manifest_tree.specs.Tree.{sources_before}
 use Rattle.manifest_tree.proofs.Law.{law_of_names}
-use Rattle.layout_terms.specs.Placement.{IsRun, AreInRuns}
+use Rattle.manifest_tree.specs.Placement.{IsRun, AreInRuns}
 use Rattle.romfs_layout.specs.Disjoint.{FilesAreApart}
 use Rattle.cramfs_layout.specs.Sharing.{SourcesAreShared}
 use Rattle.formats.specs.Format.{Format}

@@ -11,7 +11,7 @@ use Rattle.rom_tree.specs.Dots.{is_dots}
 use Rattle.manifest.specs.Texts.{is_bad}
 use Rattle.manifest.specs.Paths.{names_of, path_of, is_bad_name}
 use Rattle.manifest.proofs.Named.{path_with_names, has_slash}
-use Rattle.layout_terms.specs.Lists.{IsName}
+use Rattle.manifest_tree.specs.Lists.{IsName}
 use Rattle.manifest_layout.proofs.Bools.{or_false}
 use Rattle.manifest_layout.specs.Misfit.{last_len}
 use Rattle.manifest_layout.proofs.Sorted.{last_of}

@@ -12,7 +12,7 @@ use Rattle.manifest.specs.Lines.{ManifestLines, is_dir, is_hard}
 use Rattle.manifest_tree.specs.Names.{Names, nothing, leaf, link, subdirectory}
 use Rattle.manifest_tree.specs.Tree.{What, a_leaf, a_link, a_directory, what_by, inode_of, grown, tree_of, root_of}
 use Rattle.manifest_tree.proofs.Law.{grown_by}
-use Rattle.layout_terms.specs.Files.{files, height}
+use Rattle.manifest_tree.specs.Files.{files, height}
 use Rattle.cramfs_format.proofs.Orders.{never_self}
 use Rattle.manifest_layout.proofs.Bools.{dir_not_hard}
 use Rattle.formats.specs.Format.{cramfs}

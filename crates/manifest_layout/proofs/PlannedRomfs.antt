@@ -16,7 +16,7 @@ use Rattle.manifest_tree.specs.Tree.{What, a_leaf, a_link, a_directory, what_by,
 use Rattle.manifest_tree.proofs.Law.{grown_by}
 use Rattle.rom_fields.specs.Padding.{pad}
 use Rattle.rom_fields.proofs.Padding.{pad-after}
-use Rattle.layout_terms.specs.Files.{files, height}
+use Rattle.manifest_tree.specs.Files.{files, height}
 use Rattle.cramfs_format.proofs.Orders.{never_self}
 use Rattle.romfs_layout.specs.Layout.{root_at, full_size_of, all_headers}
 use Rattle.romfs_layout.specs.Items.{item_of}

@@ -5,8 +5,8 @@ use Rattle.manifest.specs.Grammar.{IsManifest}
 use Rattle.manifest.specs.Lines.{ManifestLines}
 use Rattle.manifest_tree.specs.Tree.{tree_of, root_of}
 use Rattle.rom_fields.proofs.Padding.{pad-after}
-use Rattle.layout_terms.specs.Items.{SectionsRise}
-use Rattle.layout_terms.proofs.Sections.{rise_wider}
+use Rattle.manifest_tree.specs.Items.{SectionsRise}
+use Rattle.manifest_tree.proofs.Sections.{rise_wider}
 use Rattle.romfs_layout.specs.Layout.{root_at, full_size_of}
 use Rattle.romfs_layout.proofs.Compact as romfs_compact
 use Rattle.romfs_layout.proofs.Sectioned as in_romfs

@@ -17,7 +17,7 @@ use Rattle.manifest_tree.specs.Names.{source, Inode, Names, nothing, leaf, link,
 use Rattle.manifest_tree.specs.Tree.{What, a_leaf, a_link, a_directory, what_by, sources_before, with_contents}
 use Rattle.manifest_tree.specs.Tree.{inode_by}
 use Rattle.manifest_tree.specs.Tree.{inode_of, grown, tree_of}
-use Rattle.layout_terms.specs.Alignments.{align_by, HaveAlignments}
+use Rattle.manifest_tree.specs.Alignments.{align_by, HaveAlignments}
 use Rattle.cramfs_layout.specs.Items.{AreAlignedBy}
 use Rattle.formats.specs.Format.{Format}
 use Rattle.manifest_layout.specs.Compact.{is_source, align_or, source_align}

@@ -6,7 +6,7 @@ use Rattle.formats.specs.Format.{Format, romfs, cramfs}
 use Rattle.manifest.specs.Lines.{ManifestLines}
 use Rattle.manifest_tree.specs.Tree.{tree_of, root_of}
 use Rattle.rom_fields.specs.Padding.{pad}
-use Rattle.layout_terms.specs.Items.{Item, Section}
+use Rattle.manifest_tree.specs.Items.{Item, Section}
 use Rattle.romfs_layout.specs.Layout as of_romfs
 use Rattle.romfs_layout.specs.Items as romfs_items
 use Rattle.cramfs_layout.specs.Layout as of_cramfs

@@ -12,7 +12,7 @@ use Rattle.manifest.specs.declared.line.Line.{Line}
 use Rattle.manifest.specs.Lines.{ManifestLines, filed, led}
 use Rattle.manifest.specs.Paths.{names_of}
 use Rattle.manifest_tree.specs.Shape.{node_under}
-use Rattle.layout_terms.specs.Placement.{IsRun}
+use Rattle.manifest_tree.specs.Placement.{IsRun}
 use Rattle.romfs_layout.specs.Disjoint.{AreDisjoint}
 use Rattle.formats.specs.Format.{Format, romfs, cramfs}
 

@@ -1,6 +1,6 @@
 //! Laws on the misfits of a manifest, and on the layout of one that fits.
 ghost use Rattle.std.specs.Prelude.{◌≡◌, List, ℕ, Option, MatchOption, map, length};
-ghost use Rattle.layout_terms.specs.Items.{SectionsRise};
+ghost use Rattle.manifest_tree.specs.Items.{SectionsRise};
 ghost use Rattle.manifest.specs.Grammar.{IsManifest};
 ghost use Rattle.manifest.specs.Lines.{ManifestLines};
 ghost use Rattle.manifest_layout.specs.Compact.{IsCompact};

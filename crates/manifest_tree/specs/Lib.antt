@@ -3,3 +3,9 @@ pub mod Tree
 pub mod Shape
 pub mod Meant
 pub mod Example
+pub mod Lists
+pub mod Files
+pub mod Items
+pub mod Bodies
+pub mod Placement
+pub mod Alignments

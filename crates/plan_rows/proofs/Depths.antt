@@ -1,7 +1,7 @@
 -- The greatest depth of the rows of a tree is its height.
 use Rattle.std.proofs.Common.{◌≡◌, ◌+◌, ℕ, max, List, [], ◌∷◌, ◌++◌, arith}
 use Rattle.manifest_tree.specs.Names.{Names, nothing, leaf, link, subdirectory}
-use Rattle.layout_terms.specs.Files.{height}
+use Rattle.manifest_tree.specs.Files.{height}
 use Rattle.plan_rows.specs.Rows.{Row, rows, deepest}
 
 deepest-append : (rs qs : List Row) → deepest (rs ++ qs) ≡ max (deepest rs) (deepest qs)

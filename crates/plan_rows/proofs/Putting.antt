@@ -13,7 +13,7 @@ use Rattle.manifest_tree.specs.Names.{Inode, Names, nothing, leaf, link, subdire
 use Rattle.manifest_tree.specs.Tree.{What, a_leaf, a_link, a_directory, named, put, put_at, is_before}
 use Rattle.manifest_tree.proofs.Found.{found, a_file, last_or, is_parent, is_a_directory, past_file, own_parent}
 use Rattle.manifest_tree.proofs.Found.{not_here}
-use Rattle.layout_terms.specs.Lists.{StandsIn}
+use Rattle.manifest_tree.specs.Lists.{StandsIn}
 use Rattle.manifest_layout.proofs.Orders.{same_order}
 use Rattle.manifest_layout.proofs.Sorted.{AreSorted, Before, HoldAll}
 use Rattle.plan_rows.specs.Entries.{key_of, Entry, entry, entries, put_entry}

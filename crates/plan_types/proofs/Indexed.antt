@@ -4,7 +4,7 @@ use Rattle.std.proofs.Common.{refl, sym, ap, ◌∙◌, arith}
 use Rattle.std.proofs.lemmas.List.{get_or-drop, length-drop}
 use Rattle.std.specs.Option.{option_map}
 use Rattle.std.specs.List.{AllByRecursion as Every}
-use Rattle.layout_terms.specs.Items.{Section, section, super}
+use Rattle.manifest_tree.specs.Items.{Section, section, super}
 use Rattle.plan_types.specs.Plans.{section_at}
 use Rattle.plan_types.specs.declared.section.Section as code_section
 use Rattle.plan_types.specs.Views.{section_view}

@@ -1,7 +1,7 @@
 -- `IsPlanOf`: the conditions on a plan of a manifest: it has the items and the sections of the
 -- manifest's layout. `IsPlan`: it is the plan of some manifest that fits. (This project's own.)
 use Rattle.std.specs.Prelude.{◌≡◌, ℕ, zero, suc, List, [], ◌∷◌, length, Option, Some, None}
-use Rattle.layout_terms.specs.Items.{Item, Section}
+use Rattle.manifest_tree.specs.Items.{Item, Section}
 use Rattle.manifest.specs.Grammar.{IsManifest}
 use Rattle.manifest.specs.Lines.{ManifestLines, sources_of}
 use Rattle.formats.specs.Format.{Format}

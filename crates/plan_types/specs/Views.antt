@@ -2,8 +2,8 @@
 -- the definitions. (This project's own.)
 use Rattle.std.specs.Prelude.{ℕ, List, map, get_or}
 use Rattle.manifest_tree.specs.Names.{Fill, no_bytes, text, source}
-use Rattle.layout_terms.specs.Items.{Item, Section, Body, super, record_of, table_of, text_of}
-use Rattle.layout_terms.specs.Items.{contents_of}
+use Rattle.manifest_tree.specs.Items.{Item, Section, Body, super, record_of, table_of, text_of}
+use Rattle.manifest_tree.specs.Items.{contents_of}
 use Rattle.formats.specs.Format.{format_of}
 use Rattle.plan_types.specs.Plans.{Planned}
 use Rattle.formats.specs.declared.format.Format as code_format

@@ -2,7 +2,7 @@
 //! plan of some manifest that fits.
 //!
 //! Proved: each `Plan` is that of some manifest that fits, and its functions return the values that
-//! it was made of. `layout_terms` and `manifest_layout` define items and sections.
+//! it was made of. `manifest_tree` and `manifest_layout` define items and sections.
 //! `specs/Views.antt` maps the values of the code to these, and `specs/Plans.antt` has the
 //! conditions on a plan.
 #![tactic(auto)]

@@ -1,2 +1,7 @@
 pub mod Sums
 pub mod Linux
+pub mod Fronts
+pub mod Mapped
+pub mod Regular
+pub mod Files
+pub mod Zeros

@@ -1,9 +1,9 @@
 -- The counted pages are the mapped ones.
 use Rattle.std.proofs.Common.{◌≡◌, ◌+◌, ℕ, zero, suc, false, List, refl, sym, ap, ◌∙◌}
 use Rattle.cramfs_format.specs.declared.order.Order.{Order}
-use Rattle.cramfs_mapping.specs.Physmem.{Flash, mapped_pages}
-use Rattle.cramfs_mapping.specs.InPlace.{pages_in_place}
-use Rattle.cramfs_mapping.specs.declared.mapping.Mapping.{Mapping}
+use Rattle.program_pages.specs.Physmem.{Flash, mapped_pages}
+use Rattle.program_pages.specs.InPlace.{pages_in_place}
+use Rattle.program_pages.specs.declared.mapping.Mapping.{Mapping}
 use Rattle.elf_format.specs.Header.{program_at}
 use Rattle.elf_format.specs.Loading.{loaded}
 use Rattle.elf_format.specs.declared.header.Header.{Header}

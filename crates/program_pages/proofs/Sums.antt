@@ -4,7 +4,7 @@ use Rattle.std.proofs.Common.{Result, Ok, Err, Some, None}
 use Rattle.std.specs.Prelude.{if◌then◌else◌}
 use Rattle.std.proofs.lemmas.Bool.{cases_lt}
 use Rattle.rom_fields.specs.Words.{part_of}
-use Rattle.cramfs_mapping.specs.Physmem.{Flash}
+use Rattle.program_pages.specs.Physmem.{Flash}
 use Rattle.elf_format.specs.Header.{header_of, program_at}
 use Rattle.elf_format.specs.Loading.{loaded}
 use Rattle.elf_format.specs.declared.error.ElfError.{ElfError}

@@ -1,12 +1,12 @@
 -- `pages_of`: how many pages of a program in the flash Linux maps in place, and how many it copies
 -- into memory. (This project's own. What is loaded is `elf_format.specs.Loading`, and what of it is
--- mapped is `cramfs_mapping.specs.InPlace`, or without an MMU `cramfs_mapping.specs.Physmem`.)
+-- mapped is `program_pages.specs.InPlace`, or without an MMU `program_pages.specs.Physmem`.)
 use Rattle.std.specs.Prelude.{ℕ, zero, suc, ◌+◌, ◌-◌, max, List, Bool, true, false, if◌then◌else◌}
 use Rattle.std.specs.Prelude.{Result, Ok, Err, Option, Some, None}
 use Rattle.rom_fields.specs.Words.{part_of}
-use Rattle.cramfs_mapping.specs.Physmem.{Flash}
-use Rattle.cramfs_mapping.specs.InPlace.{pages_in_place}
-use Rattle.cramfs_mapping.specs.declared.mapping.Mapping.{Mapping}
+use Rattle.program_pages.specs.Physmem.{Flash}
+use Rattle.program_pages.specs.InPlace.{pages_in_place}
+use Rattle.program_pages.specs.declared.mapping.Mapping.{Mapping}
 use Rattle.elf_format.specs.Header.{header_of, program_at}
 use Rattle.elf_format.specs.Loading.{loaded, zero_pages}
 use Rattle.elf_format.specs.declared.error.ElfError.{ElfError}

@@ -1,3 +1,5 @@
 pub mod Counted
 pub mod Mapped
 pub mod Flat
+pub mod Physmem
+pub mod InPlace

@@ -1,9 +1,9 @@
 -- `mapped_sum`: the pages that Linux maps to the flash for the program headers of a file. (Linux
 -- 6.1 fs/binfmt_elf.c and fs/cramfs/inode.c: `elf_format.specs.Loading`,
--- `cramfs_mapping.specs.Physmem`.)
+-- `program_pages.specs.Physmem`.)
 use Rattle.std.specs.Prelude.{ℕ, zero, suc, ◌+◌, List}
 use Rattle.cramfs_format.specs.declared.order.Order.{Order}
-use Rattle.cramfs_mapping.specs.Physmem.{Flash, mapped_pages}
+use Rattle.program_pages.specs.Physmem.{Flash, mapped_pages}
 use Rattle.elf_format.specs.Header.{program_at}
 use Rattle.elf_format.specs.Loading.{loaded}
 use Rattle.elf_format.specs.declared.header.Header.{Header}

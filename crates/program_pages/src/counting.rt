@@ -3,7 +3,7 @@ ghost use Rattle.std.specs.Prelude.{◌≡◌, ◌+◌, ◌≤◌, ◌<◌, ◌^
 ghost use Rattle.rom_fields.specs.Words.{part_of};
 ghost use Rattle.program_pages.specs.Counted.{flash_at, pages_of, placed_in, plus, segment_of};
 
-use cramfs_mapping::{Mapping, pages_in_place};
+use crate::mapping::{Mapping, pages_in_place};
 use elf_format::{ElfError, Header, Loading, Program};
 use rom_fields::part;
 

@@ -4,3 +4,6 @@ pub mod Printed
 pub mod Texts
 pub mod Copies
 pub mod Known
+pub mod Closed
+pub mod Lines
+pub mod Mapped

@@ -7,3 +7,6 @@ pub mod Serving
 pub mod Refused
 pub mod Copying
 pub mod Room
+pub mod Chosen
+pub mod Ends
+pub mod Texts

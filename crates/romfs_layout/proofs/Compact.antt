@@ -9,9 +9,9 @@ use Rattle.rom_fields.proofs.Padding.{pad-after}
 use Rattle.romfs_format.specs.Record.{pad16}
 use Rattle.manifest_tree.specs.Names.{Fill, no_bytes, text, source, Inode, Names, nothing, leaf, link, subdirectory}
 use Rattle.manifest_tree.specs.Names.{bytes_of}
-use Rattle.layout_terms.specs.Alignments.{align_by, HaveAlignments}
-use Rattle.layout_terms.specs.Items.{Item, Section, fill_section}
-use Rattle.layout_terms.proofs.Bodies.{item_here, items_later}
+use Rattle.manifest_tree.specs.Alignments.{align_by, HaveAlignments}
+use Rattle.manifest_tree.specs.Items.{Item, Section, fill_section}
+use Rattle.manifest_tree.proofs.Bodies.{item_here, items_later}
 use Rattle.romfs_layout.specs.Layout.{Header, record_len, data_align, place_of, leaf_end, header_end, ends, headers}
 use Rattle.romfs_layout.specs.Layout.{all_headers, place_with, placed, root_at, full_size_of}
 use Rattle.romfs_layout.specs.Items.{item_of, items_of, sections_from, sections_of}

@@ -9,9 +9,9 @@ use Rattle.rom_fields.specs.Parts.{Part, part, with_part, laid}
 use Rattle.rom_fields.specs.Sums.{sealed}
 use Rattle.rom_fields.proofs.Parts.{length-with_part}
 use Rattle.manifest_tree.specs.Names.{Fill, no_bytes, text, source, Inode, Names, bytes_of}
-use Rattle.layout_terms.specs.Items.{Item, Section, fill_section, bytes_section}
-use Rattle.layout_terms.specs.Bodies.{item_at, body_bytes}
-use Rattle.layout_terms.proofs.Bodies.{item_here, items_later}
+use Rattle.manifest_tree.specs.Items.{Item, Section, fill_section, bytes_section}
+use Rattle.manifest_tree.specs.Bodies.{item_at, body_bytes}
+use Rattle.manifest_tree.proofs.Bodies.{item_here, items_later}
 use Rattle.romfs_layout.specs.Layout.{Header, record_len, all_headers, root_at, full_size_of, ends, place_with, placed}
 use Rattle.romfs_layout.specs.Layout.{parts, superblock, header_bytes, image_of, layout}
 use Rattle.romfs_layout.specs.Items.{item_of, items_of, sections_from, sections_of}

@@ -17,7 +17,7 @@ use Rattle.manifest_tree.specs.Names.{Names, nothing, leaf, link, subdirectory}
 use Rattle.romfs_layout.specs.Layout.{number_of, code_of, place_of, leaf_end, header_end, ends, first_place, headers}
 use Rattle.romfs_layout.specs.Reads.{Reads}
 use Rattle.romfs_layout.specs.Wells.{AreWell}
-use Rattle.layout_terms.specs.Files.{height}
+use Rattle.manifest_tree.specs.Files.{height}
 use Rattle.romfs_layout.specs.Forest.{offsets}
 use Rattle.romfs_layout.proofs.Places.{first_even}
 use Rattle.romfs_layout.proofs.Headers.{code_is}

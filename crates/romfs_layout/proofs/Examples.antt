@@ -6,7 +6,7 @@ use Rattle.rom_fields.specs.Parts.{with_part}
 use Rattle.rom_tree.specs.declared.types.Kind.{Kind}
 use Rattle.rom_tree.specs.declared.types.Kind.TheVariants.{Directory, Regular, Symlink, Character}
 use Rattle.manifest_tree.specs.Names.{Fill, no_bytes, text, source, Inode, Names, nothing, leaf, link, subdirectory}
-use Rattle.layout_terms.specs.Items.{Item, section, super, record_of, text_of, contents_of}
+use Rattle.manifest_tree.specs.Items.{Item, section, super, record_of, text_of, contents_of}
 use Rattle.romfs_layout.specs.Items.{items_of, sections_of}
 use Rattle.romfs_layout.specs.Layout.{header_bytes, padded_name, place_of, data_align, device_of, code_of, layout}
 use Rattle.romfs_layout.specs.Layout.{image_of}

@@ -14,10 +14,10 @@ use Rattle.rom_fields.specs.Parts.{HasAt}
 use Rattle.manifest_tree.specs.Names.{Inode, Names, nothing, leaf, link, subdirectory, bytes_of}
 use Rattle.romfs_layout.specs.Layout.{Header, placed, place_with, number_of, mode_bit, runnable, code_of, device_of}
 use Rattle.romfs_layout.specs.Layout.{place_of, leaf_end, header_end, ends, first_place, headers}
-use Rattle.layout_terms.specs.Files.{Placed}
+use Rattle.manifest_tree.specs.Files.{Placed}
 use Rattle.romfs_layout.specs.Reads.{Reads}
 use Rattle.romfs_layout.specs.Wells.{FitsKind, IsFile, HasMode, AreWell, file_of, AreLinks}
-use Rattle.layout_terms.specs.Files.{files}
+use Rattle.manifest_tree.specs.Files.{files}
 use Rattle.romfs_layout.proofs.Places.{place_even, first_even}
 use Rattle.romfs_layout.proofs.Headers.{code_is}
 use Rattle.romfs_layout.proofs.Stands.{says, number_is}

@@ -11,7 +11,7 @@ use Rattle.manifest_tree.specs.Names.{Fill, no_bytes, Inode, Names, nothing, lea
 use Rattle.romfs_layout.specs.Layout.{Header, record_len, number_of, mode_bit, runnable, code_of, device_of, leaf_end}
 use Rattle.romfs_layout.specs.Layout.{header_end, ends, first_place, headers}
 use Rattle.romfs_layout.specs.Reads.{IsHeader}
-use Rattle.layout_terms.specs.Lists.{IsName}
+use Rattle.manifest_tree.specs.Lists.{IsName}
 use Rattle.romfs_layout.specs.Wells.{FitsKind, IsFile, AreWell}
 use Rattle.romfs_layout.proofs.Places.{place_after, ends_after, first_even, first_within}
 

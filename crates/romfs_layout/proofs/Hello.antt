@@ -3,7 +3,7 @@ use Rattle.std.proofs.Common.{◌≡◌, ◌≢◌, ℕ, zero, suc, List, [], �
 use Rattle.std.specs.List.{Contains}
 use Rattle.rom_tree.specs.declared.types.Kind.TheVariants.{Directory, Regular}
 use Rattle.manifest_tree.specs.Names.{Inode, nothing, leaf, link, subdirectory, source, no_bytes}
-use Rattle.layout_terms.specs.Lists.{IsName}
+use Rattle.manifest_tree.specs.Lists.{IsName}
 use Rattle.romfs_layout.specs.Layout.{data_align, place_of}
 use Rattle.romfs_layout.specs.Wells.{IsFile, IsDirectory}
 use Rattle.romfs_layout.specs.Planned.{IsPlanned}

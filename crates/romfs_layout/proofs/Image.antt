@@ -21,7 +21,7 @@ use Rattle.romfs_layout.specs.Layout.{ends, first_place, padded_name, parts, roo
 use Rattle.romfs_layout.specs.Layout.{superblock, image_of, layout}
 use Rattle.rom_fields.specs.Parts.{part}
 use Rattle.rom_fields.specs.Padding.{pad}
-use Rattle.layout_terms.specs.Files.{Placed}
+use Rattle.manifest_tree.specs.Files.{Placed}
 use Rattle.romfs_layout.specs.Reads.{IsHeader}
 use Rattle.romfs_layout.specs.Wells.{AreWell}
 use Rattle.romfs_layout.specs.Forest.{all_offsets}

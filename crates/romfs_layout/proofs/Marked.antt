@@ -1,5 +1,5 @@
 -- The headers of a layout have the bit "executable" for the modes that have it.
-use Rattle.layout_terms.proofs.Alike.{alike_some}
+use Rattle.manifest_tree.proofs.Alike.{alike_some}
 use Rattle.std.proofs.Common.{◌≡◌, ℕ, ◌+◌, ◌-◌, ◌/◌, ◌%◌, ◌<◌, ◌≤◌, eqb, List, [], ◌∷◌, ◌++◌, length, drop, replicate}
 use Rattle.std.proofs.Common.{refl, ap, ◌∙◌, arith}
 use Rattle.std.proofs.lemmas.List.{length-drop, drop-append-le}
@@ -13,7 +13,7 @@ use Rattle.rom_tree.specs.Tree.{ino_of}
 use Rattle.romfs_format.specs.Tree.{executable}
 use Rattle.manifest_tree.specs.Names.{Inode, Names}
 use Rattle.manifest_tree.specs.Shape.{node_under, file_under, with_names}
-use Rattle.layout_terms.specs.Files.{Placed, at_place}
+use Rattle.manifest_tree.specs.Files.{Placed, at_place}
 use Rattle.romfs_layout.specs.Layout.{code_of, ends, full_size_of, layout, mode_bit, number_of, placed, root_at}
 use Rattle.romfs_layout.specs.Marked.{is_executable, AreMarked}
 use Rattle.romfs_layout.specs.Planned.{IsPlanned}

@@ -17,7 +17,7 @@ use Rattle.manifest_tree.specs.Names.{Names, nothing, leaf, link, subdirectory}
 use Rattle.romfs_layout.specs.Layout.{Header, record_len, place_of, leaf_end, header_end, ends, headers}
 use Rattle.romfs_layout.specs.Reads.{Reads, IsHeader}
 use Rattle.romfs_layout.specs.Wells.{AreWell}
-use Rattle.layout_terms.specs.Lists.{StandsIn}
+use Rattle.manifest_tree.specs.Lists.{StandsIn}
 use Rattle.romfs_layout.specs.Forest.{offsets}
 use Rattle.romfs_layout.proofs.Places.{place_after, ends_after}
 use Rattle.romfs_layout.proofs.Headers.{Ascend}

@@ -13,8 +13,8 @@ use Rattle.romfs_format.specs.Record.{pad16, end_of, size_of, type_of}
 use Rattle.romfs_format.specs.Tree.{node_of, places_at, by_type, kind_numbers}
 use Rattle.manifest_tree.specs.Names.{Inode, Names, nothing, leaf, link, subdirectory}
 use Rattle.manifest_tree.specs.Shape.{node_under, file_under, with_names}
-use Rattle.layout_terms.specs.Files.{Placed, at_place}
-use Rattle.layout_terms.proofs.Alike.{alike_some}
+use Rattle.manifest_tree.specs.Files.{Placed, at_place}
+use Rattle.manifest_tree.proofs.Alike.{alike_some}
 use Rattle.romfs_layout.specs.Disjoint.{AreDisjoint, FilesAreApart}
 use Rattle.romfs_layout.specs.Layout.{record_len, place_of, leaf_end, header_end, ends, placed, place_with, headers}
 use Rattle.romfs_layout.specs.Layout.{number_of, root_at}

@@ -1,5 +1,5 @@
 -- The tree of a layout has the shape of its names.
-use Rattle.layout_terms.proofs.Alike.{Alike, then_alike}
+use Rattle.manifest_tree.proofs.Alike.{Alike, then_alike}
 use Rattle.std.proofs.Common.{◌≡◌, ℕ, ◌+◌, true, false, if◌then◌else◌, List, [], ◌∷◌, map, refl, sym, ap, subst, ◌∙◌}
 use Rattle.std.proofs.Common.{inl, inr, Some}
 use Rattle.std.proofs.lemmas.Bool.Decides.{eqb_tells}
@@ -14,7 +14,7 @@ use Rattle.romfs_format.specs.Tree.{node_of, places_at, kind_numbers}
 use Rattle.rom_tree.proofs.ByKind.{by_kind_map, by_kind_directory, by_kind_rest}
 use Rattle.manifest_tree.specs.Names.{Inode, Names, nothing, leaf, link, subdirectory}
 use Rattle.romfs_layout.specs.Layout.{placed, place_with, place_of, leaf_end, header_end, ends, number_of}
-use Rattle.layout_terms.specs.Files.{Placed}
+use Rattle.manifest_tree.specs.Files.{Placed}
 use Rattle.romfs_layout.specs.Wells.{AreWell, AreLinks}
 use Rattle.manifest_tree.specs.Shape.{Named, find_name, node_under, file_under}
 use Rattle.romfs_layout.proofs.Files.{IsAt, with_line}

@@ -14,9 +14,9 @@ use Rattle.romfs_format.specs.Tree.{node_of, places_at, by_type, kind_numbers}
 use Rattle.rom_fields.specs.Padding.{pad}
 use Rattle.rom_fields.proofs.Padding.{pad-after}
 use Rattle.manifest_tree.specs.Names.{Inode, Names, nothing, leaf, link, subdirectory}
-use Rattle.layout_terms.specs.Files.{Placed, at_place}
-use Rattle.layout_terms.specs.Placement.{IsRun}
-use Rattle.layout_terms.proofs.Runs.{no_run, run_of}
+use Rattle.manifest_tree.specs.Files.{Placed, at_place}
+use Rattle.manifest_tree.specs.Placement.{IsRun}
+use Rattle.manifest_tree.proofs.Runs.{no_run, run_of}
 use Rattle.romfs_layout.specs.Layout.{record_len, data_align, place_of, data_of, leaf_end, header_end, ends, placed}
 use Rattle.romfs_layout.specs.Layout.{headers, number_of}
 use Rattle.romfs_layout.specs.Reads.{Reads}

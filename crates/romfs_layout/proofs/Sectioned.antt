@@ -6,8 +6,8 @@ use Rattle.std.specs.List.{AllByRecursion as Every}
 use Rattle.record_forest.proofs.Lists.{every_join}
 use Rattle.manifest_tree.specs.Names.{Fill, no_bytes, text, source, Inode, Names, nothing, leaf, link, subdirectory}
 use Rattle.romfs_format.specs.Record.{pad16}
-use Rattle.layout_terms.specs.Items.{Section, SectionsRise, fill_section}
-use Rattle.layout_terms.proofs.Sections.{rise_later}
+use Rattle.manifest_tree.specs.Items.{Section, SectionsRise, fill_section}
+use Rattle.manifest_tree.proofs.Sections.{rise_later}
 use Rattle.romfs_layout.specs.Layout.{Header, record_len, data_of, leaf_end, header_end, ends, headers, all_headers}
 use Rattle.romfs_layout.specs.Layout.{root_at, full_size_of, place_with, placed}
 use Rattle.romfs_layout.specs.Items.{item_of, items_of, sections_from, sections_of}

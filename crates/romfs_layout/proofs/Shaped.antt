@@ -1,5 +1,5 @@
 -- The tree of a planned volume has the shape of its names.
-use Rattle.layout_terms.proofs.Alike.{Alike, alike_map, alike_some, same_both, pairs_unmap}
+use Rattle.manifest_tree.proofs.Alike.{Alike, alike_map, alike_some, same_both, pairs_unmap}
 use Rattle.rom_fields.proofs.Parts.{moved}
 use Rattle.std.proofs.Common.{◌↔◌, ◌≡◌, ◌≢◌, ℕ, ◌+◌, ◌-◌, ◌<◌, ◌≤◌, ◌⊎◌, List, [], ◌∷◌, ◌++◌, replicate, refl, sym, ap}
 use Rattle.std.proofs.Common.{subst, ◌∙◌, arith, inl, inr}
@@ -13,14 +13,14 @@ use Rattle.manifest_tree.specs.Names.{Inode, Names, nothing, leaf, link, subdire
 use Rattle.romfs_layout.specs.Layout.{Header, placed, place_with, code_of, place_of, leaf_end, header_end, ends}
 use Rattle.romfs_layout.specs.Layout.{root_at, all_headers, full_size_of, image_of, layout, number_of, headers}
 use Rattle.rom_fields.specs.Padding.{pad}
-use Rattle.layout_terms.specs.Files.{Placed, at_place}
-use Rattle.layout_terms.specs.Placement.{IsRun, AreInRuns}
+use Rattle.manifest_tree.specs.Files.{Placed, at_place}
+use Rattle.manifest_tree.specs.Placement.{IsRun, AreInRuns}
 use Rattle.romfs_layout.specs.Wells.{IsFile, IsDirectory, AreWell, AreLinks}
 use Rattle.romfs_layout.specs.Planned.{IsPlanned}
 use Rattle.manifest_tree.specs.Shape.{node_value, file_value, node_under, file_under, with_names, HasShape}
 use Rattle.romfs_layout.proofs.Places.{place_after, ends_after}
 use Rattle.romfs_layout.proofs.Headers.{code_is}
-use Rattle.layout_terms.proofs.Alike.{pairs_unmap}
+use Rattle.manifest_tree.proofs.Alike.{pairs_unmap}
 use Rattle.romfs_layout.proofs.Files.{IsAt, AtPlace, files_at, placed_files, mode_is, bit_is}
 use Rattle.romfs_layout.proofs.Stands.{says}
 use Rattle.romfs_layout.proofs.Entries.{made_of}

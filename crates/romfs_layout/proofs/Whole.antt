@@ -24,15 +24,15 @@ use Rattle.romfs_layout.specs.Layout.{Header, number_of, code_of, ends, first_pl
 use Rattle.romfs_layout.specs.Layout.{all_headers}
 use Rattle.romfs_layout.specs.Reads.{Reads, IsHeader}
 use Rattle.romfs_layout.specs.Wells.{IsDirectory, AreWell, AreLinks}
-use Rattle.layout_terms.specs.Files.{files, height}
-use Rattle.layout_terms.specs.Lists.{StandsIn}
+use Rattle.manifest_tree.specs.Files.{files, height}
+use Rattle.manifest_tree.specs.Lists.{StandsIn}
 use Rattle.romfs_layout.specs.Forest.{offsets, all_offsets, in_row}
 use Rattle.romfs_layout.proofs.Places.{first_even}
 use Rattle.romfs_layout.proofs.Headers.{Ascend, code_is, headers_ascend, ascend_later}
 use Rattle.romfs_layout.proofs.Stands.{says, says_target, first_none, first_some, stands_at, stands_for, all_in_row}
 use Rattle.romfs_layout.proofs.Stands.{headers_in_row}
 use Rattle.romfs_layout.proofs.Apart.{ascend_low, places_rise, apart}
-use Rattle.layout_terms.proofs.Alike.{every_unmap, pairs_unmap}
+use Rattle.manifest_tree.proofs.Alike.{every_unmap, pairs_unmap}
 use Rattle.romfs_layout.proofs.Named.{all_sound, Located, located, names_differ, head_differs, dot_is_not, no_name}
 use Rattle.romfs_layout.proofs.Leads.{IsListed, IsTarget, leads, dots_leads, follow_once}
 use Rattle.romfs_layout.proofs.Entries.{made_of, skip, entries_is, node_depth, made_depth}

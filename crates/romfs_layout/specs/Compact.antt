@@ -1,9 +1,9 @@
 -- `AreCompact`: sections with no room between them except what alignment needs. (This project's
 -- own.)
 use Rattle.std.specs.Prelude.{ℕ, ◌+◌, ◌<◌, ◌==◌, max, if◌then◌else◌, List, [], ◌∷◌}
-use Rattle.layout_terms.specs.Alignments.{align_by}
-use Rattle.layout_terms.specs.Bodies.{item_at}
-use Rattle.layout_terms.specs.Items.{Item, Body, super, record_of, Section}
+use Rattle.manifest_tree.specs.Alignments.{align_by}
+use Rattle.manifest_tree.specs.Bodies.{item_at}
+use Rattle.manifest_tree.specs.Items.{Item, Body, super, record_of, Section}
 
 -- the alignment of a header: 16, or more if the bytes behind it ask for more
 abbrev pub header_align : (ℕ → ℕ) → Item → ℕ

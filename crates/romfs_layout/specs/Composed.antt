@@ -3,8 +3,8 @@ use Rattle.std.specs.Prelude.{ℕ, ◌-◌, List, [], ◌∷◌, ◌++◌, map, 
 use Rattle.rom_fields.specs.Padding.{pad}
 use Rattle.rom_fields.specs.Parts.{Part, part, laid}
 use Rattle.rom_fields.specs.Sums.{sealed}
-use Rattle.layout_terms.specs.Items.{Item, Section}
-use Rattle.layout_terms.specs.Bodies.{section_part}
+use Rattle.manifest_tree.specs.Items.{Item, Section}
+use Rattle.manifest_tree.specs.Bodies.{section_part}
 use Rattle.romfs_layout.specs.Layout.{superblock, header_bytes}
 use Rattle.romfs_layout.specs.Items.{sections_of}
 

@@ -2,7 +2,7 @@
 -- `sections_of`: its sections. (This project's own.)
 use Rattle.std.specs.Prelude.{ℕ, ◌+◌, List, [], ◌∷◌, ◌++◌, map}
 use Rattle.manifest_tree.specs.Names.{Inode, Names}
-use Rattle.layout_terms.specs.Items.{Item, Section, section, super, record_of, bytes_section}
+use Rattle.manifest_tree.specs.Items.{Item, Section, section, super, record_of, bytes_section}
 use Rattle.romfs_layout.specs.Layout.{Header, all_headers, root_at, record_len}
 
 -- a header as an item: its words are next, spec and size, it has no table, and its size is that of

@@ -21,7 +21,7 @@ use Rattle.rom_fields.specs.Sums.{balanced, sealed}
 use Rattle.manifest_tree.specs.Names.{Fill, no_bytes, Inode, Names, nothing, leaf, link}
 use Rattle.manifest_tree.specs.Names.{subdirectory}
 use Rattle.manifest_tree.specs.Names.{bytes_of}
-use Rattle.layout_terms.specs.Files.{Placed, at_place}
+use Rattle.manifest_tree.specs.Files.{Placed, at_place}
 
 -- One header: its offset; its words next (with the mode), spec and size; its name; and its data:
 -- their offset, or 0 if there are none, and which they are.

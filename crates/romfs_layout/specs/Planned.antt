@@ -4,7 +4,7 @@ use Rattle.std.specs.Prelude.{◌≢◌, ℕ, ◌+◌, ◌^◌, ◌<◌, ◌≤�
 use Rattle.std.specs.List.{AllByRecursion as Every}
 use Rattle.record_forest.specs.Members.{Pairs}
 use Rattle.manifest_tree.specs.Names.{Inode, Names}
-use Rattle.layout_terms.specs.Files.{files, height}
+use Rattle.manifest_tree.specs.Files.{files, height}
 use Rattle.romfs_layout.specs.Layout.{root_at, ends, all_headers}
 use Rattle.romfs_layout.specs.Wells.{IsDirectory, AreWell, AreLinks}
 

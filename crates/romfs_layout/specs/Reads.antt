@@ -5,7 +5,7 @@ use Rattle.rom_fields.specs.Words.{word_be, words_sum, part_of}
 use Rattle.romfs_format.specs.Record.{size_of, name_of, end_of}
 use Rattle.rom_fields.specs.Parts.{HasAt}
 use Rattle.manifest_tree.specs.Names.{bytes_of}
-use Rattle.layout_terms.specs.Lists.{IsName}
+use Rattle.manifest_tree.specs.Lists.{IsName}
 use Rattle.romfs_layout.specs.Layout.{Header, record_len}
 
 -- the bytes have the fields of the header, and its data are behind it

@@ -11,7 +11,7 @@ use Rattle.romfs_format.specs.Tree.{mode_named}
 use Rattle.manifest_tree.specs.Names.{no_bytes, Inode, Names, nothing, leaf, link, subdirectory}
 use Rattle.manifest_tree.specs.Names.{bytes_of}
 use Rattle.romfs_layout.specs.Layout.{number_of, data_align, runnable}
-use Rattle.layout_terms.specs.Lists.{IsFree}
+use Rattle.manifest_tree.specs.Lists.{IsFree}
 
 -- the mode is the one that romfs has for its kind, with the bit "executable" or without it
 abbrev pub HasMode : Inode → Type 0

@@ -8,7 +8,7 @@ use Rattle.rom_tree.specs.declared.types.Kind.{Kind}
 use Rattle.rom_tree.specs.declared.types.Kind.TheVariants.{Directory, Regular, Symlink, Block, Character, Socket, Fifo}
 use Rattle.manifest_tree.specs.Names.{Inode, Names, nothing, leaf, link, subdirectory}
 use Rattle.manifest_tree.specs.Tree.{What, a_leaf, a_link, a_directory}
-use Rattle.layout_terms.specs.Files.{height}
+use Rattle.manifest_tree.specs.Files.{height}
 use Rattle.romfs_layout.specs.Layout.{leaf_end, header_end, ends, root_at, placed, place_with}
 use Rattle.romfs_layout.specs.Planned.{IsPlanned}
 use Rattle.romfs_layout.specs.Wells.{FitsKind, AreWell}

@@ -6,7 +6,7 @@ use Rattle.std.proofs.lemmas.List.{set-set, set-get_or, get_or-set_same, get_or-
 use Rattle.romfs_format.specs.Record.{pad16}
 use Rattle.manifest_tree.specs.Names.{Names, nothing, leaf, link, subdirectory}
 use Rattle.manifest_tree.specs.Tree.{a_leaf, a_link, a_directory}
-use Rattle.layout_terms.specs.Files.{height}
+use Rattle.manifest_tree.specs.Files.{height}
 use Rattle.romfs_layout.specs.Layout.{place_of, leaf_end, header_end, ends, first_place}
 use Rattle.plan_rows.specs.Rows.{Row, row, rows}
 use Rattle.romfs_plan.specs.declared.places.Place.{Place}

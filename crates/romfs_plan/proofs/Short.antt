@@ -4,7 +4,7 @@ use Rattle.std.specs.List.{AllByRecursion as Every}
 use Rattle.record_forest.proofs.Lists.{every_join}
 use Rattle.romfs_format.specs.Record.{pad16}
 use Rattle.manifest_tree.specs.Names.{Inode, Names, nothing, leaf, link, subdirectory}
-use Rattle.layout_terms.specs.Items.{Item}
+use Rattle.manifest_tree.specs.Items.{Item}
 use Rattle.romfs_layout.specs.Items.{item_of, items_of}
 use Rattle.romfs_layout.specs.Layout.{Header, headers, leaf_end, header_end, ends, root_at, all_headers, placed}
 use Rattle.romfs_layout.specs.Layout.{place_with}

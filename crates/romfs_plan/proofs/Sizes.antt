@@ -7,7 +7,7 @@ use Rattle.rom_fields.specs.Padding.{pad}
 use Rattle.romfs_format.specs.Record.{pad16}
 use Rattle.manifest_tree.specs.Names.{Inode, Names, nothing, leaf, link, subdirectory}
 use Rattle.manifest_tree.specs.Tree.{What, a_leaf, a_link, a_directory}
-use Rattle.layout_terms.specs.Files.{height}
+use Rattle.manifest_tree.specs.Files.{height}
 use Rattle.romfs_layout.specs.Layout.{root_at, full_size_of, headers, all_headers, leaf_end, header_end, ends, placed}
 use Rattle.romfs_layout.specs.Layout.{place_with}
 use Rattle.romfs_layout.specs.Items.{item_of, items_of}

@@ -9,7 +9,7 @@ use Rattle.record_forest.proofs.Lists.{every_join}
 use Rattle.romfs_format.specs.Record.{pad16}
 use Rattle.manifest_tree.specs.Names.{Inode, Names, nothing, leaf, link, subdirectory}
 use Rattle.manifest_tree.specs.Tree.{a_leaf, a_link, a_directory}
-use Rattle.layout_terms.specs.Files.{Placed, at_place, height}
+use Rattle.manifest_tree.specs.Files.{Placed, at_place, height}
 use Rattle.romfs_layout.specs.Layout.{Header, headers, place_of, leaf_end, header_end, ends, first_place, placed}
 use Rattle.romfs_layout.specs.Layout.{place_with, root_at}
 use Rattle.romfs_layout.specs.Items.{item_of, items_of}

@@ -9,7 +9,7 @@ use Rattle.std.specs.BTreeMap.{get_by, BTreeMap}
 use Rattle.rom_tree.specs.Dots.{dot, dot_dot}
 use Rattle.manifest_tree.specs.Names.{Inode}
 use Rattle.manifest_tree.specs.Tree.{What, a_leaf, a_link, a_directory}
-use Rattle.layout_terms.specs.Files.{Placed, at_place}
+use Rattle.manifest_tree.specs.Files.{Placed, at_place}
 use Rattle.romfs_layout.specs.Layout.{Header, header_alone, code_of, device_of, record_len}
 use Rattle.plan_rows.specs.Rows.{Row}
 use Rattle.romfs_plan.specs.declared.places.Place.{Place}

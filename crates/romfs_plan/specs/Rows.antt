@@ -6,7 +6,7 @@ use Rattle.std.specs.Prelude.{length}
 use Rattle.rom_fields.specs.Padding.{pad}
 use Rattle.manifest_tree.specs.Names.{Inode, Names}
 use Rattle.manifest_tree.specs.Tree.{What, a_leaf, a_link, a_directory}
-use Rattle.layout_terms.specs.Files.{height}
+use Rattle.manifest_tree.specs.Files.{height}
 use Rattle.romfs_layout.specs.Layout.{root_at, full_size_of}
 use Rattle.romfs_layout.specs.Items.{items_of}
 use Rattle.plan_rows.specs.Rows.{Row}

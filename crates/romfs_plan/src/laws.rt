@@ -1,6 +1,6 @@
 //! Laws on the rows of names.
 ghost use Rattle.std.specs.Prelude.{◌≡◌, ◌≤◌, ℕ, replicate};
-ghost use Rattle.layout_terms.specs.Files.{height};
+ghost use Rattle.manifest_tree.specs.Files.{height};
 ghost use Rattle.manifest_tree.specs.Names.{Names};
 ghost use Rattle.plan_rows.specs.Rows.{rows};
 ghost use Rattle.romfs_layout.specs.Layout.{ends};

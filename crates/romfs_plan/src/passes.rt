@@ -1,7 +1,7 @@
 //! The two passes over rows.
 ghost use Rattle.std.specs.Prelude.{◌≡◌, ◌<◌, ◌≤◌, ◌^◌, IfOk, length, map, replicate};
 ghost use Rattle.std.specs.List.{All};
-ghost use Rattle.layout_terms.specs.Files.{height};
+ghost use Rattle.manifest_tree.specs.Files.{height};
 ghost use Rattle.manifest_tree.specs.Names.{Names};
 ghost use Rattle.plan_rows.specs.Rows.{rows as rows_of, row_view};
 ghost use Rattle.romfs_plan.specs.Passes.{places, places_end, places_of, named_places};

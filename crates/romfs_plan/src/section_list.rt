@@ -2,7 +2,7 @@
 ghost use Rattle.std.specs.Prelude.{◌≡◌, ◌<◌, IfOk, map, length};
 ghost use Rattle.std.specs.List.{AllByRecursion as Every};
 ghost use Rattle.std.specs.Option.{option_map, option_to_list};
-ghost use Rattle.layout_terms.specs.Items.{section, record_of, bytes_section};
+ghost use Rattle.manifest_tree.specs.Items.{section, record_of, bytes_section};
 ghost use Rattle.plan_types.specs.Views.{item_view, section_view};
 ghost use Rattle.romfs_layout.specs.Items.{sections_of};
 ghost use Rattle.romfs_layout.specs.Layout.{record_len};

@@ -7,8 +7,8 @@ use Rattle.manifest_tree.specs.Names.{Inode, Names, nothing, leaf, link, subdire
 use Rattle.manifest_tree.specs.Tree.{tree_of, root_of}
 use Rattle.romfs_format.specs.Record.{pad16}
 use Rattle.rom_fields.specs.Padding.{pad}
-use Rattle.layout_terms.specs.Items.{Item, Section, SectionsRise}
-use Rattle.layout_terms.specs.Bodies.{item_at}
+use Rattle.manifest_tree.specs.Items.{Item, Section, SectionsRise}
+use Rattle.manifest_tree.specs.Bodies.{item_at}
 use Rattle.romfs_layout.specs.Layout.{Header, record_len, leaf_end, header_end, ends, headers, all_headers, place_with}
 use Rattle.romfs_layout.specs.Layout.{placed, root_at, full_size_of}
 use Rattle.romfs_layout.specs.Items as romfs_items

@@ -1,7 +1,7 @@
 -- Sections and items by their index.
 use Rattle.std.proofs.Common.{◌≡◌, ℕ, zero, suc, ◌<◌, List, [], ◌∷◌, map, length, get_or, refl, sym, ◌∙◌, arith}
-use Rattle.layout_terms.specs.Items.{Item, Section, record_of}
-use Rattle.layout_terms.specs.Bodies.{item_at}
+use Rattle.manifest_tree.specs.Items.{Item, Section, record_of}
+use Rattle.manifest_tree.specs.Bodies.{item_at}
 use Rattle.plan_types.specs.declared.item.Item as code_item
 use Rattle.plan_types.specs.Views.{item_view}
 use Rattle.image_stream.specs.Segments.{segment_at}

@@ -5,8 +5,8 @@ use Rattle.std.specs.List.{AllByRecursion as Every}
 use Rattle.rom_fields.proofs.Padding.{pad-after}
 use Rattle.image_stream.specs.Segments.{place, len, segment_at, SegmentsRise, HasSource, IsLaidOut}
 use Rattle.manifest_tree.specs.Names.{Fill, bytes_of}
-use Rattle.layout_terms.specs.Items.{Item, Section, Body, super, record_of, table_of, text_of, contents_of}
-use Rattle.layout_terms.specs.Items.{SectionsRise}
+use Rattle.manifest_tree.specs.Items.{Item, Section, Body, super, record_of, table_of, text_of, contents_of}
+use Rattle.manifest_tree.specs.Items.{SectionsRise}
 use Rattle.plan_types.specs.Plans.{Planned}
 use Rattle.romfs_layout.specs.Layout.{root_at}
 use Rattle.romfs_write.specs.Form.{full_size, segment_by, segment_of, form_of}

@@ -18,10 +18,10 @@ use Rattle.image_stream.proofs.Laid.{image_laid}
 use Rattle.image_stream.proofs.ByWords.{weighted_words}
 use Rattle.manifest_tree.specs.Names.{Fill, Inode, Names, bytes_of}
 use Rattle.plan_types.specs.Plans.{Planned, IsPlanOf}
-use Rattle.layout_terms.specs.Items.{Item, Section, Body, super, record_of, table_of, text_of, contents_of, section}
-use Rattle.layout_terms.specs.Items.{SectionsRise}
-use Rattle.layout_terms.specs.Bodies.{item_at}
-use Rattle.layout_terms.proofs.Bodies.{sections_are}
+use Rattle.manifest_tree.specs.Items.{Item, Section, Body, super, record_of, table_of, text_of, contents_of, section}
+use Rattle.manifest_tree.specs.Items.{SectionsRise}
+use Rattle.manifest_tree.specs.Bodies.{item_at}
+use Rattle.manifest_tree.proofs.Bodies.{sections_are}
 use Rattle.romfs_layout.specs.Layout.{root_at, superblock, layout}
 use Rattle.romfs_layout.specs.Composed.{romfs_part, composed}
 use Rattle.romfs_layout.specs.Items.{sections_of, sections_from}

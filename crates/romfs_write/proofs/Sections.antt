@@ -6,9 +6,9 @@ use Rattle.std.proofs.lemmas.List.{length-drop}
 use Rattle.std.specs.List.{AllByRecursion as Every}
 use Rattle.record_forest.proofs.Lists.{every_join}
 use Rattle.manifest_tree.specs.Names.{Fill, no_bytes, text, source, bytes_of}
-use Rattle.layout_terms.specs.Items.{Item, Section, fill_section, bytes_section}
-use Rattle.layout_terms.specs.Bodies.{item_at}
-use Rattle.layout_terms.proofs.Bodies.{item_here, items_later}
+use Rattle.manifest_tree.specs.Items.{Item, Section, fill_section, bytes_section}
+use Rattle.manifest_tree.specs.Bodies.{item_at}
+use Rattle.manifest_tree.proofs.Bodies.{item_here, items_later}
 use Rattle.plan_types.proofs.Sized.{size_is}
 use Rattle.romfs_write.specs.Known.{IsBody}
 use Rattle.romfs_layout.specs.Layout.{Header}

@@ -4,9 +4,9 @@ use Rattle.std.specs.Prelude.{ℕ, ◌+◌, ◌-◌, List, [], ◌++◌, map, le
 use Rattle.byteorder.specs.Endian.{big_bytes}
 use Rattle.image_stream.specs.Segments.{Segment, fixed, content, Form}
 use Rattle.plan_types.specs.Plans.{Planned}
-use Rattle.layout_terms.specs.Bodies.{item_at}
-use Rattle.layout_terms.specs.Items.{Item, Section, Body, super, record_of, table_of, text_of}
-use Rattle.layout_terms.specs.Items.{contents_of}
+use Rattle.manifest_tree.specs.Bodies.{item_at}
+use Rattle.manifest_tree.specs.Items.{Item, Section, Body, super, record_of, table_of, text_of}
+use Rattle.manifest_tree.specs.Items.{contents_of}
 use Rattle.manifest_tree.specs.Names.{bytes_of}
 use Rattle.romfs_format.specs.Record.{pad16}
 use Rattle.romfs_format.specs.Tree.{magic}

@@ -4,9 +4,9 @@ use Rattle.std.specs.List.{AllByRecursion as Every}
 use Rattle.manifest_tree.specs.Names.{text}
 use Rattle.rom_fields.specs.Padding.{pad}
 use Rattle.plan_types.specs.Plans.{Planned}
-use Rattle.layout_terms.specs.Items.{Item, Body, super, record_of, table_of, text_of, contents_of}
-use Rattle.layout_terms.specs.Items.{section, SectionsRise}
-use Rattle.layout_terms.specs.Bodies.{item_at}
+use Rattle.manifest_tree.specs.Items.{Item, Body, super, record_of, table_of, text_of, contents_of}
+use Rattle.manifest_tree.specs.Items.{section, SectionsRise}
+use Rattle.manifest_tree.specs.Bodies.{item_at}
 use Rattle.romfs_layout.specs.Composed.{written}
 use Rattle.romfs_layout.specs.Layout.{root_at}
 use Rattle.romfs_write.specs.Form.{full_size}

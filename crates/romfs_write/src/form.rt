@@ -2,8 +2,8 @@
 ghost use Rattle.std.specs.Prelude.{◌≡◌, ◌+◌, ◌<◌, ◌≤◌, ◌^◌, ℕ, List, [], length, take, drop};
 ghost use Rattle.std.specs.Prelude.{get_or};
 ghost use Rattle.image_stream.specs.Segments.{fixed};
-ghost use Rattle.layout_terms.specs.Bodies.{item_at};
-ghost use Rattle.layout_terms.specs.Items.{section, super};
+ghost use Rattle.manifest_tree.specs.Bodies.{item_at};
+ghost use Rattle.manifest_tree.specs.Items.{section, super};
 ghost use Rattle.formats.specs.Format.{romfs};
 ghost use Rattle.manifest_tree.specs.Names.{bytes_of};
 ghost use Rattle.plan_types.specs.Views.{fill_view, item_view, section_view};

@@ -17,14 +17,13 @@ use crate::sources::{joined_names, names_of, sizes_of, stamps_of, texts_of};
 use crate::watched::Watched;
 use crate::{bad_lines, contents, depfile, explained, reading, warned};
 use build_commands::{
-    print_bad_manifest, print_built, print_misfit, print_size, print_strict, print_xip,
+    Rule, print_bad_manifest, print_built, print_misfit, print_size, print_strict, print_xip,
 };
 use command_line::Build;
 use file_sources::FileSources;
-use image_file::{Padding, PlanImage, Unwritten};
+use image_build::{Padding, PlanImage, Unwritten};
 use image_stream::Sources;
 use layout_plan::{PlanError, plan};
-use make_rule::Rule;
 use manifest::{Manifest, ManifestError, parse};
 use plan_types::{Format, Plan};
 use program_streams::Held;
@@ -513,6 +512,19 @@ fn kept_of<T: Drop>(
     }
 }
 
+/// The names and the states of the files that have to keep their states.
+fn kept_files(
+    reporter: &Reporter<'_>,
+    names: &[&str],
+    stamps: &[Stamp],
+    watched: &[Watched],
+) -> Result<(Vec<String>, Vec<Stamp>), Status> {
+    let alloc = reporter.rt.alloc();
+    let kept = kept_of(reporter, kept_names(alloc, names, watched))?;
+    let states = kept_of(reporter, kept_states(alloc, stamps, watched))?;
+    Ok((kept, states))
+}
+
 /// Names as texts.
 fn as_texts<'n>(reporter: &Reporter<'_>, names: &'n [String]) -> Result<Vec<&'n str>, Status> {
     let mut texts = Vec::new(reporter.rt.alloc());
@@ -540,14 +552,7 @@ fn build_from<'a>(
     let plan = planned(reporter, asked.format, origin, &sizes)?;
     check_size(reporter, asked, &plan)?;
     let warnings = warnings_of(reporter, asked, origin, &sizes)?;
-    let owned = kept_of(
-        reporter,
-        kept_names(reporter.rt.alloc(), names, origin.watched),
-    )?;
-    let states = kept_of(
-        reporter,
-        kept_states(reporter.rt.alloc(), &stamps, origin.watched),
-    )?;
+    let (owned, states) = kept_files(reporter, names, &stamps, origin.watched)?;
     let kept = as_texts(reporter, &owned)?;
     let others = origin.watched.iter().filter(|file| !file.is_source);
     let kept = Kept {

@@ -1,6 +1,6 @@
 //! The file with the rules for make that a build writes.
 use crate::reporter::Reporter;
-use make_rule::Rule;
+use build_commands::Rule;
 use rom_commands::{Ending, Status};
 use rom_fields::{ByteWrite, put};
 use sentences::reasons::{NOT_TAKEN, OWN_PART, OWN_RULE, RULE_UNFIT};

@@ -6,7 +6,7 @@ ghost use Rattle.image_check.specs.Any.{any_view};
 use crate::reporter::Reporter;
 use command_line::Verify;
 use image_check::AnyImage;
-use image_digest::{compare, find_holder, pass_over};
+use image_compare::{compare, find_holder, pass_over};
 use memchr::memmem;
 use program_streams::{Ahead, read_until};
 use rom_fields::Plain;

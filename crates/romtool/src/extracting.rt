@@ -1,10 +1,11 @@
 //! Takes an image apart: its directories, files and links, or some of them, into a directory, and
 //! its manifest to standard output.
-ghost use Rattle.std.specs.Prelude.{IfOk};
+ghost use Rattle.std.specs.Prelude.{IfOk, map};
 ghost use Rattle.rom_tree.specs.Tree.{IsShallow};
 ghost use Rattle.image_check.specs.Any.{any_view};
-ghost use Rattle.image_extract.specs.Members.{members_in};
-ghost use Rattle.image_extract.specs.declared.giving.Giving.{Giving as AGiving};
+ghost use Rattle.image_manifest.specs.Chosen.{AreMadeBy};
+ghost use Rattle.image_manifest.specs.ExtractedMembers.{members_in};
+ghost use Rattle.image_manifest.specs.declared.giving.Giving.{Giving as AGiving};
 ghost use Rattle.image_manifest.specs.Describable.{IsLawfulTree};
 ghost use Rattle.image_manifest.specs.Members.{AreMembers};
 ghost use Rattle.tree_extract.specs.Choices.{IsFit};
@@ -14,9 +15,10 @@ use crate::reporter::Reporter;
 use crate::totals::is_many_times;
 use command_line::Extract;
 use image_check::AnyImage;
-use image_extract::{Giving, ImageTree, LENDING, kinds_made};
 use image_info::volume;
-use image_manifest::{FileRules, Member, Refused, members, write_manifest};
+use image_manifest::{
+    FileRules, Giving, ImageTree, LENDING, Member, Refused, kinds_made, members, write_manifest,
+};
 use path_patterns::Piece;
 use program_streams::Again;
 use rom_commands::{Ending, Status};
@@ -100,7 +102,7 @@ impl Extraction<'_> {
     fn fill(&self, directory: &str, top: Top, counts: &mut Counts) -> Result<(), Status>
         requires { IsLawfulTree (any_view self.now.tree.now.image.now).tree }
     {
-        image_extract::laws::can_be_extracted();
+        image_manifest::laws::can_be_extracted();
         let mut system = System::new(self.members());
         if let Err(Stopped { index, error }) = extract(self.tree, &mut system) {
             return Err(self.refused(index, &error));
@@ -129,6 +131,7 @@ impl Extraction<'_> {
         let tree = ImageTree {
             image: self.tree.image,
             members: self.tree.members,
+            patterns: self.tree.patterns,
             kinds: self.tree.kinds,
             giving: Giving {
                 masked: top.masked(),
@@ -259,7 +262,10 @@ fn kinds_by<'a>(
 ) -> Result<Vec<Made>, Status>
     requires are { AreMembers (any_view image.now) members.now }
     requires lawful { IsLawfulTree (any_view image.now).tree }
-    ensures { IfOk result (λ v. (g : AGiving) → IsFit (members_in g (any_view image.now)) v.items) }
+    ensures made { IfOk result (λ v. AreMadeBy (map (λ p. p.items) patterns.now)
+        (any_view image.now) members.now v.items) }
+    ensures fit { IfOk result (λ v. (g : AGiving)
+        → IsFit (members_in g (any_view image.now)) v.items) }
 {
     let alloc = reporter.rt.alloc();
     for (text, pattern) in asked.paths.iter().zip(patterns) {
@@ -284,7 +290,7 @@ pub fn run<'a>(
     reporter: &'a Reporter<'a>,
     image: &'a AnyImage<'a>,
     asked: &'a Extract<'a>,
-    patterns: &[Vec<Piece>],
+    patterns: &'a [Vec<Piece>],
 ) -> Status
     requires shallow { IsShallow (any_view image.now).tree }
     requires lawful { IsLawfulTree (any_view image.now).tree }
@@ -302,6 +308,7 @@ pub fn run<'a>(
                 &ImageTree {
                     image,
                     members: &members,
+                    patterns,
                     kinds: &kinds,
                     giving: Giving {
                         owners: asked.owners,

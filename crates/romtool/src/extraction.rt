@@ -1,11 +1,11 @@
 //! An image that is extracted, with what reports how that goes.
 ghost use Rattle.std.specs.Prelude.{◌≡◌, ◌<◌, length};
 ghost use Rattle.image_check.specs.Any.{any_view};
-ghost use Rattle.image_extract.specs.Members.{made_in};
+ghost use Rattle.image_manifest.specs.ExtractedMembers.{made_in};
 
 use crate::reporter::Reporter;
 use image_check::AnyImage;
-use image_extract::ImageTree;
+use image_manifest::ImageTree;
 use rom_commands::{Ending, Status};
 use std::io;
 use system_tree::{Members, Syncing};

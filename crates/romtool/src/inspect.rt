@@ -13,19 +13,19 @@ use crate::reporter::Reporter;
 use crate::{dump, extracting, reading, totals};
 use command_line::{Cat, Diff, Digest, Extract, Map, MapForm, Verify, Which};
 use image_check::{AnyImage, check};
-use image_header::is_prefix;
-use image_load::{Found, Front, Loaded};
-use image_numbers::Numbers;
-use inspect_commands::{
-    print_diff, print_digests, print_extents, print_header, print_image_digest, print_numbers,
-    print_picture, print_places, print_script, print_verdict,
+use image_info::Numbers;
+use map_forms::is_prefix;
+use rom_commands::{
+    Asked, Ending, Status, has_addresses, print, print_diff, print_digests, print_extents,
+    print_file, print_header, print_image_digest, print_numbers, print_picture, print_places,
+    print_script, print_verdict, refuse,
 };
-use rom_commands::{Asked, Ending, Status, has_addresses, print, print_file, refuse};
 use rom_faults::{CheckError, Fault};
 use rom_fields::{ByteWrite, put};
 use rom_tree::{Limits, TreeImage};
 use sentences::reasons::{MISREAD, NO_ADDRESS, NO_PREFIX, NOT_IN_PLACE};
 use sentences::words::escaped;
+use system_files::{Found, Front, Loaded};
 
 /// The prefix of the names in a header, if none is given.
 const PREFIX: &str = "ROM";

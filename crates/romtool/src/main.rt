@@ -9,12 +9,11 @@
 //! IMAGE` answers lines from its tree, and `romtool space IMAGE..` from the trees of several
 //! images, with sessions. Without a subcommand, the example image `hello` is checked and listed.
 //!
-//! What is printed, answered and written is proved in `rom_commands`, `build_commands`,
-//! `image_manifest` and `image_build`; what is read into memory and how streams are used, in
-//! `program_streams` and `image_load`. How a file is replaced is proved in `image_file`, and how an
-//! image is extracted in `tree_extract`. Both proofs are about accounts: lists of the calls that
-//! `system_files` and `system_tree` make to the system. The other work with files and directories
-//! is only tested.
+//! What is printed, answered and written, and how a file is replaced, is proved in `rom_commands`,
+//! `build_commands`, `image_manifest` and `image_build`; what is read into memory and how streams
+//! are used, in `program_streams` and `system_files`; how an image is extracted, in `tree_extract`.
+//! The proofs on files are about accounts: lists of the calls that `system_files` and `system_tree`
+//! make to the system. The other work with files and directories is only tested.
 #![tactic(auto)]
 
 mod aligning;

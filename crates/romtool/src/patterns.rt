@@ -2,9 +2,8 @@
 //! extraction.
 use crate::reporter::Reporter;
 use command_line::ScanAll;
-use inspect_commands::Only;
 use path_patterns::{PatternError, Piece, characters, matches, pieces_of};
-use rom_commands::{Ending, Status};
+use rom_commands::{Ending, Only, Status};
 use sentences::reasons::{PATTERN_CLASS, PATTERN_UNFINISHED};
 use std::alloc::{AllocError, Global};
 

@@ -2,7 +2,6 @@
 //! that changes meanwhile is not read.
 use command_line::size_named;
 use image_check::{HEAD, reach_of};
-use image_load::{Found, load};
 use program_streams::read_until;
 use sentences::reasons::{IMAGE_TOO_LONG, LINE_TOO_LONG, MANIFEST_TOO_LONG, NO_MAX_SIZE};
 use std::env::{Env, FillError};
@@ -10,7 +9,7 @@ use std::fs::{File, Metadata, OpenFile};
 use std::io::Read;
 use std::os::unix::fs::{FileExt, FileTypeExt};
 use std::{fs, io, str};
-use system_files::{Identity, Stamp, let_rest};
+use system_files::{Found, Identity, Stamp, let_rest, load};
 
 /// The name by which the system opens standard input.
 pub const INPUT: &str = "/proc/self/fd/0";

@@ -2,8 +2,8 @@
 use crate::directories::all_stayed;
 use crate::lister::{self, Survey};
 use crate::reporter::Reporter;
+use build_commands::{PrintError, print_walked};
 use command_line::Scan;
-use directory_scan::{PrintError, print_walked};
 use directory_walk::Entry;
 use program_streams::Again;
 use rom_commands::{Ending, Status};

@@ -4,11 +4,11 @@ use crate::output::{errors, lines};
 use crate::reading::{self, Unread};
 use crate::replies::Replies;
 use crate::reporter::Reporter;
-use image_load::{Found, Front};
 use program_streams::Ahead;
 use rom_commands::{Asked, Ending, Status, refuse_in, serve_on, serve_several_on};
 use rom_fields::{ByteRead, Plain};
 use std::io;
+use system_files::{Found, Front};
 
 /// Serves the image in a file.
 pub fn serve(reporter: &Reporter<'_>, name: &str) -> Result<Status, Status> {

@@ -1,3 +1,4 @@
 pub mod Device
 pub mod Names
 pub mod Parts
+pub mod Loads

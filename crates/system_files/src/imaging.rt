@@ -1,7 +1,7 @@
 //! The check of the manifest and the sources after an image was written.
 use crate::disk::first_changed;
 use crate::stamp::{Stamp, has_changed};
-use image_file::LastCheck;
+use image_build::LastCheck;
 
 /// What changed while an image was written.
 #[derive(Drop)]

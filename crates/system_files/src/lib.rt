@@ -1,7 +1,7 @@
 //! The files of the system that a command reads and replaces: their names, owners and states, the
-//! sources of an image, and the file that an image is written to.
+//! images that it reads, the sources of an image, and the file that an image is written to.
 //!
-//! Proved: a file is replaced whole or not at all (`atomic_file`, `image_file`), of the account of
+//! Proved: a file is replaced whole or not at all (`atomic_file`, `image_build`), of the account of
 //! calls that `beside.rt` keeps; the sources have the bytes that the system's reads returned
 //! (`file_sources`), of what `disk.rt` returns; and which directory and which part a name means
 //! (`specs/Names.antt`).
@@ -10,6 +10,11 @@
 //! it notes, and notes what they returned; the methods of `Opener` in `disk.rt` open the file of
 //! the name, and pass on what the system read. What the system says of a file is known by no proof:
 //! functions that only return that have no clause.
+//!
+//! `load` reads an image from any reader, up to the length that a check reads; if the first bytes
+//! refuse the image, only these. Proved, for a reader whose bytes are known: the loaded bytes are
+//! exactly the first bytes that a check reads, or the part of them that refuses the image
+//! (`specs/Loads.antt`).
 #![tactic(auto)]
 
 mod beside;
@@ -18,6 +23,7 @@ mod device;
 mod directories;
 mod disk;
 mod imaging;
+mod loading;
 mod mounted;
 mod names;
 pub mod own_output;
@@ -33,9 +39,10 @@ pub use device::device_of;
 pub use directories::{base, directory_at, is_foreign, opened_name, state_of};
 pub use disk::{Disk, Opened, first_changed, stamp_unlinked};
 pub use imaging::{Late, Unchanged};
+pub use loading::{Found, Front, Loaded, load};
 pub use names::{behind_links, directory_of, name_in_directory};
 pub use owner::{STICKY, WRITABLE_BY_OTHERS};
 pub use parts::part_path;
 pub use progress::Progress;
 pub use stamp::{Identity, Stamp, has_changed, let_rest, open_unchanged, stamp_of};
-pub use target::{FillError, Target, is_part_of};
+pub use target::{FillError, Target, are_one_file, is_part_of};

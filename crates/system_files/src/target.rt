@@ -10,7 +10,7 @@ use crate::owner::{STICKY, WRITABLE_BY_OTHERS};
 use crate::parts::is_part_name;
 use crate::stamp::Identity;
 use atomic_file::{Begun, Fill, Unbegun, Unfinished, abandon, begin, keep};
-use image_file::{LastCheck, PlanImage, Unwritten, put};
+use image_build::{LastCheck, PlanImage, Unwritten, put};
 use image_stream::Sources;
 use program_streams::{Held, Remembering};
 use rom_fields::{ByteWrite, Failed, Plain};
@@ -199,6 +199,15 @@ fn are_in_one_directory(rt: &HostRuntime, one: &str, another: &str) -> bool {
 /// Whether both are to get one name in one directory.
 fn are_for_one_name(rt: &HostRuntime, one: &str, another: &str) -> bool {
     name_in_directory(one) == name_in_directory(another) && are_in_one_directory(rt, one, another)
+}
+
+/// Returns whether two names lead to one file, or are to lead to one that is not there yet.
+pub fn are_one_file(rt: &HostRuntime, one: &str, another: &str) -> bool {
+    match (fs::metadata(rt, one), fs::metadata(rt, another)) {
+        (Ok(here), Ok(there)) => Identity::of(&here) == Identity::of(&there),
+        (Err(_), Err(_)) => are_for_one_name(rt, one, another),
+        _ => false,
+    }
 }
 
 /// Returns whether the first name is one that a part of the second one may have.

@@ -1,14 +1,13 @@
 //! The members of an image that is extracted, and the path of each in the directory.
 ghost use Rattle.std.specs.Prelude.{◌≡◌, ◌<◌, ◌++◌, codes, length, string_bytes, IfOk};
 ghost use Rattle.image_check.specs.Any.{any_view};
-ghost use Rattle.image_extract.specs.Members.{made_in};
+ghost use Rattle.image_manifest.specs.ExtractedMembers.{made_in};
 ghost use Rattle.tree_extract.specs.Members.{path_at};
 
 use crate::making::Syncing;
 use arrayvec::ArrayVec;
 use image_check::AnyImage;
-use image_extract::ImageTree;
-use image_manifest::PATH_MAX;
+use image_manifest::{ImageTree, PATH_MAX};
 use sentences::reasons::{LINK_UNFIT, NAME_UNFIT, NO_TEXT};
 use std::alloc::AllocError;
 use std::{io, str};

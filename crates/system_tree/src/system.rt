@@ -5,7 +5,7 @@
 ghost use Rattle.std.specs.Prelude.{◌≡◌, ◌<◌, ◌++◌, [], List, codes, length, string_bytes};
 ghost use Rattle.std.specs.Prelude.{IfOk, OnOk};
 ghost use Rattle.image_check.specs.Any.{any_view};
-ghost use Rattle.image_extract.specs.Members.{made_in};
+ghost use Rattle.image_manifest.specs.ExtractedMembers.{made_in};
 ghost use Rattle.tree_extract.specs.Accounts.{log_of, room_of};
 ghost use Rattle.tree_extract.specs.Members.{Member, path_at};
 

@@ -1,5 +1,5 @@
 use Rattle.std.proofs.Common.{◌≡◌, ◌++◌, List, drop, map}
-use Rattle.layout_terms.specs.Items.{Item}
+use Rattle.manifest_tree.specs.Items.{Item}
 use Rattle.plan_types.specs.Views.{item_view, section_view}
 use Rattle.cramfs_layout.specs.Items.{sections_from}
 use Rattle.cramfs_plan.specs.Tables.{HoldsTables, unsorted}

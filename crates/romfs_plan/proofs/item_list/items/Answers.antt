@@ -1,6 +1,6 @@
 use Rattle.std.proofs.Common.{◌+◌, ◌++◌, ℕ, List, length, map, replicate, sym, ap, ◌∙◌}
 use Rattle.std.proofs.lemmas.List.{length-map}
-use Rattle.layout_terms.specs.Items.{Item}
+use Rattle.manifest_tree.specs.Items.{Item}
 use Rattle.plan_types.specs.declared.item.Item as code_item
 use Rattle.plan_types.specs.Views.{item_view}
 use Rattle.plan_rows.specs.Rows.{inode_view, row_view}

@@ -1,5 +1,5 @@
 use Rattle.std.proofs.Common.{◌<◌, length}
-use Rattle.layout_terms.specs.Items.{Item}
+use Rattle.manifest_tree.specs.Items.{Item}
 use Rattle.plan_types.specs.Views.{item_view}
 use Rattle.romfs_plan.proofs.Lists.{here}
 use Rattle.romfs_plan.proofs.section_list.sections.Goals as goal

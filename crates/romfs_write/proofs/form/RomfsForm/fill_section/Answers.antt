@@ -1,7 +1,7 @@
 use Rattle.std.proofs.Common.{◌≡◌, List, length, sym, ap, subst, ◌∙◌, arith}
 use Rattle.std.proofs.lemmas.List.{length-map}
-use Rattle.layout_terms.specs.Items.{Item}
-use Rattle.layout_terms.specs.Bodies.{item_at}
+use Rattle.manifest_tree.specs.Items.{Item}
+use Rattle.manifest_tree.specs.Bodies.{item_at}
 use Rattle.plan_types.specs.declared.section.Body as code_body
 use Rattle.plan_types.specs.Views.{item_view, body_view}
 use Rattle.romfs_layout.specs.Layout.{record_len}

@@ -1,7 +1,7 @@
 use Rattle.std.proofs.Common.{drop, sym, ap, subst, ◌∙◌, arith}
 use Rattle.std.proofs.lemmas.List.{length-drop}
 use Rattle.std.specs.Option.{option_map}
-use Rattle.layout_terms.specs.Items.{Section, section, super}
+use Rattle.manifest_tree.specs.Items.{Section, section, super}
 use Rattle.plan_types.specs.Views.{section_view}
 use Rattle.romfs_write.specs.Known.{IsBody}
 use Rattle.plan_types.proofs.Indexed.{section_found, section_lost, every_at}

@@ -1,6 +1,6 @@
 use Rattle.std.proofs.Common.{drop, sym, ap, ◌∙◌, arith}
 use Rattle.std.proofs.lemmas.List.{length-map}
-use Rattle.layout_terms.specs.Items.{section, super}
+use Rattle.manifest_tree.specs.Items.{section, super}
 use Rattle.romfs_write.specs.Form.{segment_of}
 use Rattle.romfs_write.proofs.Indexed.{segment_seen}
 use Rattle.romfs_write.proofs.form.RomfsFormSegmented.fill.Goals as goal

@@ -1,8 +1,8 @@
 use Rattle.std.proofs.Common.{◌<◌, List, length, arith, refl}
 use Rattle.rom_tree.specs.Image.{Image}
 use Rattle.image_check.specs.Any.{any_view}
-use Rattle.image_extract.specs.Members.{made_in, members_in}
-use Rattle.image_extract.specs.declared.giving.Giving.{Giving}
+use Rattle.image_manifest.specs.ExtractedMembers.{made_in, members_in}
+use Rattle.image_manifest.specs.declared.giving.Giving.{Giving}
 use Rattle.tree_extract.specs.declared.tree.Kind.{Kind}
 use Rattle.tree_extract.proofs.Chosen.{length_with}
 use Rattle.romtool.proofs.extraction.Extraction.fill.Goals as goal

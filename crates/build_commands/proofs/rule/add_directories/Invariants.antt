@@ -1,0 +1,7 @@
+use Rattle.std.proofs.Common.{◌≡◌, ◌++◌, take, map, flat_map, string_bytes}
+use Rattle.build_commands.specs.Rules.{prerequisite}
+use Rattle.build_commands.proofs.rule.add_directories.Given as goal
+
+abbrev pub invariant-loop-name : goal.invariant-loop-name
+invariant-loop-name l =
+    l.text.items ≡ l.initial.text.items ++ flat_map prerequisite (map string_bytes (take l.name-index l.names))

@@ -1,5 +1,0 @@
-pub mod Fronts
-pub mod Mapped
-pub mod Regular
-pub mod Files
-pub mod Zeros

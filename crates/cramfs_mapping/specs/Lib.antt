@@ -1,2 +1,0 @@
-pub mod Physmem
-pub mod InPlace

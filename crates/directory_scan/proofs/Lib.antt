@@ -1,5 +1,0 @@
-mod Apart
-mod Fitting
-mod Found
-mod Meant
-mod Ways

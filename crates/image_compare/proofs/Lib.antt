@@ -1,0 +1,14 @@
+pub mod Compared
+pub mod Agreed
+pub mod Reached
+pub mod Sorting
+pub mod Stepped
+pub mod Printed
+pub mod Merged
+pub mod Due
+pub mod ComparedBytes
+pub mod Dumps
+pub mod Hashed
+pub mod Held
+pub mod Shown
+pub mod Walked

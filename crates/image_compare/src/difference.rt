@@ -1,0 +1,121 @@
+//! The differences of two images.
+ghost use Rattle.std.specs.Prelude.{◌≡◌, ◌+◌, ◌<◌, ◌≤◌, ◌||◌, List, length};
+ghost use Rattle.std.specs.Bool.{OnTrue, OnFalse};
+ghost use Rattle.rom_tree.specs.Tree.{IsShallow};
+ghost use Rattle.rom_tree.specs.Names.{Name};
+ghost use Rattle.image_compare.specs.Diff.{names_lines};
+ghost use Rattle.image_compare.specs.Endings.{DiffEnds, WritesLines};
+ghost use Rattle.image_compare.specs.Rows.{AreKnown, AreRows};
+
+use crate::rows::{NoRows, Row, rows_of};
+use crate::steps::put_step;
+use rom_fields::{ByteWrite, Failed};
+use rom_tree::TreeImage;
+use std::alloc::Global;
+use thiserror::Error;
+
+/// Why not all lines of two images were written.
+#[derive(Clone, Copy, Debug, PartialEq, Eq, Error)]
+pub enum DiffError {
+    /// Memory was refused. Nothing was written.
+    #[error("out of memory")]
+    OutOfMemory,
+    /// A path has more than 16,384 bytes. Nothing was written.
+    #[error("a path of more than 16384 bytes")]
+    LongPath,
+    /// A write failed.
+    #[error("a write failed")]
+    WriteFault,
+}
+
+/// Whether no row of either list is left.
+fn are_over(xs: &[Row], ys: &[Row]) -> bool
+    ensures over { OnTrue result (length xs.now + length ys.now ≡ 0) }
+    ensures left { OnFalse result (0 < length xs.now + length ys.now) }
+{
+    xs.is_empty() && ys.is_empty()
+}
+
+/// Whether at least one of two is true.
+fn either(one: bool, other: bool) -> bool
+    ensures { result ≡ (one || other) }
+{
+    one || other
+}
+
+/// Writes the lines of two lists of rows, and returns whether there are any.
+fn write_lines<'a, T: TreeImage<'a>, W: ByteWrite>(
+    old: &T,
+    new: &T,
+    places: bool,
+    xs: &[Row],
+    ys: &[Row],
+    w: &mut W,
+) -> Result<bool, Failed>
+    requires old { AreKnown (T.image old.now) xs.now }
+    requires new { AreKnown (T.image new.now) ys.now }
+    ensures { (ps qs : List Name) → AreRows (T.image old.now) xs.now ps
+        → AreRows (T.image new.now) ys.now qs
+        → WritesLines (W.output w.old) (W.output w.new)
+        (names_lines places (T.image old.now).bytes (T.image new.now).bytes ps qs) result }
+{
+    let mut printed = false;
+    let mut failed = false;
+    let mut i = 0;
+    let mut j = 0;
+    while !failed {
+        if are_over(&xs[i..], &ys[j..]) {
+            return Ok(printed);
+        }
+        let step = put_step(old, new, places, w, &mut failed, &xs[i..], &ys[j..]);
+        i += step.old;
+        j += step.new;
+        printed = either(printed, step.printed);
+    }
+    Err(Failed)
+}
+
+/// Writes the differences of two images, sorted by path, compared as bytes. Returns whether there
+/// is a line. Directories may be 64 deep. The lines of a path are:
+///
+/// - `- PATH` if only the old image has it, `+ PATH` if only the new one has it, and both if its
+///   two nodes have different kinds;
+/// - otherwise `m PATH OLD NEW` if attributes differ, where OLD and NEW are
+///   KIND/MODE/UID/GID/MAJOR/MINOR, each as in a list;
+/// - `c PATH OLDLEN NEWLEN` if the bytes of a file or the text of a link differ;
+/// - `@ PATH OLD NEW` if `places` is true and a file's first byte is at another offset, where OLD
+///   and NEW are `0x` and eight hexadecimal digits.
+///
+/// PATH is escaped as in a list.
+///
+/// # Errors
+///
+/// `OutOfMemory` if memory was refused, and `LongPath` if a path has more than 16,384 bytes. Then
+/// nothing was written. `WriteFault` if a write failed. Then a prefix of the lines was written.
+pub fn write_diff<'a, T: TreeImage<'a>, W: ByteWrite>(
+    alloc: Global,
+    old: &T,
+    new: &T,
+    places: bool,
+    w: &mut W,
+) -> Result<bool, DiffError>
+    requires old { IsShallow (T.image old.now).tree }
+    requires new { IsShallow (T.image new.now).tree }
+    ensures { DiffEnds places (T.image old.now) (T.image new.now) (W.output w.old) (W.output w.new)
+        result }
+{
+    let xs = match rows_of(alloc, old) {
+        Ok(rows) => rows,
+        Err(NoRows::OutOfMemory) => return Err(DiffError::OutOfMemory),
+        Err(NoRows::LongPath) => return Err(DiffError::LongPath),
+    };
+    let ys = match rows_of(alloc, new) {
+        Ok(rows) => rows,
+        Err(NoRows::OutOfMemory) => return Err(DiffError::OutOfMemory),
+        Err(NoRows::LongPath) => return Err(DiffError::LongPath),
+    };
+    match write_lines(old, new, places, xs.as_slice(), ys.as_slice(), w) {
+        Ok(printed) => Ok(printed),
+        Err(_) => Err(DiffError::WriteFault),
+    }
+}

@@ -1,7 +1,0 @@
-use Rattle.rom_fields.proofs.Joins.{chain}
-use Rattle.image_diff.specs.Diff.{removed_line}
-use Rattle.image_diff.proofs.lines.put_removed.Goals as goal
-
-pub returns : goal.returns
-unfolding removed_line
-returns g c = chain c.put.ensures (chain c.put_escaped.ensures c.put-2.ensures)

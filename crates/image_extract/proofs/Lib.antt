@@ -1,6 +1,0 @@
-mod Made
-mod Wanted
-mod Indexed
-mod Known
-mod Apart
-mod Extractable

@@ -1,5 +1,0 @@
-use Rattle.std.proofs.Common.{map}
-use Rattle.image_extract.proofs.choosing.chosen.Goals as goal
-
-pub returns : goal.returns
-returns c = c.with_directories.ensures (map (λ p. p.items) c.args.patterns.now) c.in_ok-found.ensures

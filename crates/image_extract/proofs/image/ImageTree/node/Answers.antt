@@ -1,7 +1,0 @@
-use Rattle.image_extract.proofs.Known.{node_known}
-use Rattle.image_extract.proofs.image.ImageTree.node.Goals as goal
-
-pub returns : goal.returns
-returns g c =
-    node_known (g.T.Viewed.image c.args.self.now.image.now) c.args.self.now.members.now c.args.index _
-    c.args.self.now.are c.requires

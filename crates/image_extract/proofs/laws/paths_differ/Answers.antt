@@ -1,5 +1,0 @@
-use Rattle.image_extract.proofs.Extractable.{paths_differ}
-use Rattle.image_extract.proofs.laws.paths_differ.Goals as goal
-
-pub returns : goal.returns
-returns c = paths_differ

@@ -1,4 +1,0 @@
-pub mod Rights
-pub mod Members
-pub mod Chosen
-pub mod Known

@@ -1,6 +1,0 @@
-use Rattle.std.proofs.Common.{◌≡◌, drop}
-use Rattle.image_header.specs.Names.{are_words}
-use Rattle.image_header.proofs.names.are_words.Given as goal
-
-abbrev pub invariant-loop-byte : goal.invariant-loop-byte
-invariant-loop-byte l = are_words (drop l.byte-index l.bytes) ≡ are_words l.bytes

@@ -1,7 +1,0 @@
-use Rattle.std.proofs.lemmas.List.Elements.{All-from_recursion}
-use Rattle.image_picture.specs.Xml.{xml_text, IsPlainByte}
-use Rattle.image_picture.proofs.Plain.{text_plain}
-use Rattle.image_picture.proofs.laws.is_text.Goals as goal
-
-pub returns : goal.returns
-returns c = λ text. All-from_recursion IsPlainByte (xml_text text) (text_plain text)

@@ -1,3 +1,0 @@
-pub mod Closed
-pub mod Lines
-pub mod Mapped

@@ -1,4 +1,0 @@
-pub mod Alike
-pub mod Sections
-pub mod Bodies
-pub mod Runs

@@ -1,0 +1,9 @@
+pub mod Bytes
+pub mod Words
+pub mod Literals
+pub mod Whole
+pub mod Headers
+pub mod Unique
+pub mod Values
+pub mod XmlBytes
+pub mod Plain
