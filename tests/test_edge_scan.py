@@ -65,9 +65,9 @@ def kinds(here):
     if IS_ROOT:
         os.mknod("in/disk", 0o600 | stat.S_IFBLK, os.makedev(4095, 1048575))
         os.mknod("in/tty", 0o600 | stat.S_IFCHR, os.makedev(0, 1))
-    wait_for_clock(".", 0.1)  # so that no scan waits for files that are younger than 20 ms, which makes other calls
     for name in set(os.listdir("in")) - {"d", "none"}:
         os.link(f"in/{name}", f"in/none/{name}", follow_symlinks=False)
+    wait_for_clock(".", 0.1)  # a scan waits for files that changed less than 20 ms ago, which makes other calls
 
 
 def make_many(count=2500):
