@@ -7,7 +7,7 @@
 
 #include "romtool.h"
 
-/* The first byte of the file of a path, if the file is in one piece in the image; otherwise NULL. */
+/* The first byte of an executable file that is in one piece in the image; otherwise NULL. */
 static const uint8_t *first_byte_of(const struct romtool_image *image, const char *path) {
     struct romtool_file file = ROMTOOL_INIT;
     if (romtool_open_str(&file, image, path)) {
