@@ -4,6 +4,7 @@ This reader shares nothing with the program. It reads images that `check` accept
 """
 
 import functools
+import itertools
 import typing
 
 from romtool import escaped
@@ -14,13 +15,17 @@ BASES = (0, 0x08001000, 0xFFFFFF00, 0x100000000, 0xFFFF000000000000)  # addresse
 
 
 class Extent(typing.NamedTuple):
-    """Bytes of an image, as a line of `map --all` has them; the offset is that in the contents of a file."""
+    """Bytes of an image, as a line of `map --all` has them; the offset is that in the contents of a file.
+
+    If the bytes are reached by block pointers, `table` is their offset, and the number of bytes to which they lead.
+    """
 
     start: int
     length: int
     kind: str
     path: bytes | None
     offset: int
+    table: tuple[int, int] | None = None
 
 
 def is_romfs(data):
@@ -94,7 +99,7 @@ def cramfs(data, joined):
             if joined and runs and sum(runs[-1][:2]) == start:
                 runs[-1][1] += length
             else:
-                runs.append([start, length, "data", path, at])
+                runs.append([start, length, "data", path, at, (table, size)])
         yield from runs
 
     def record(at, path):
@@ -103,7 +108,7 @@ def cramfs(data, joined):
             yield offset, size, "list", path, 0
             yield from directory(offset, offset + size, path.rstrip(b"/"))
         if kind in (8, 10):
-            yield offset, -(-size // 4096) * 4, "table", path, 0
+            yield offset, -(-size // 4096) * 4, "table", path, 0, (offset, size)
             yield from blocks(offset, size, path)
 
     def directory(here, end, path):
@@ -121,6 +126,12 @@ def overlaps(found):
     return any(x.start + x.length > y.start and x[:2] != y[:2] for x, y in zip(found, found[1:]))
 
 
+def by_table(run):
+    """Returns extents of one offset: in the order of the list if one table leads to them, otherwise table by table and block by block."""
+    tables = list(dict.fromkeys(it.table for it in run))
+    return run if len(tables) == 1 else sorted(run, key=lambda it: (tables.index(it.table), it.offset))
+
+
 @functools.lru_cache(4)
 def extents(data):
     """Returns the extents of an image that have bytes, in the order of their offsets."""
@@ -128,7 +139,7 @@ def extents(data):
         found = sorted((Extent(*it) for it in found if it[1]), key=lambda it: it.start)
         if not overlaps(found):
             break
-    return found
+    return [it for _, run in itertools.groupby(found, lambda it: it.start) for it in by_table(list(run))]
 
 
 def ranges(data):

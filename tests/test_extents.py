@@ -4,6 +4,7 @@ A C program and a C++ program that include the header, and a program that is lin
 file's address, length and path. The picture has to be well-formed, and its bars have to have each byte of the file once.
 """
 
+import itertools
 import random
 import re
 import struct
@@ -68,15 +69,18 @@ NOTE = "{http://www.w3.org/2000/svg}"
 
 
 def shared(romtool, room, seed):
-    """Makes a cramfs image of random files whose blocks are those of each other, one by one, in any order."""
+    """Makes a cramfs image of random files whose blocks are those of each other, in any order. Files may share block pointers."""
     chance = random.Random(seed)
-    names = [b"f%03d" % number for number in range(chance.randint(1, 6))]
-    tables = [[chance.randrange(4) for _ in range(chance.randint(1, 5))] for _ in names]
+    tables = [[chance.randrange(4) for _ in range(chance.randint(1, 5))] for _ in range(chance.randint(1, 6))]
+    names = [b"f%03d" % number for number in range(chance.choice((len(tables), 12)))]
     at = 76 + 16 * len(names)
     front = -(-(at + 4 * sum(map(len, tables))) // 4096) * 4096
+    places = [at + 4 * it for it in itertools.accumulate(map(len, tables), initial=0)]
     inodes, pointers = b"", b""
-    for name, table in zip(names, tables):
-        inodes += layouts.inode(layouts.CRAMFS_REGULAR, 4096 * len(table), at + len(pointers), name)
+    for number, name in enumerate(names):
+        it = number if len(names) == len(tables) else chance.randrange(len(tables))
+        inodes += layouts.inode(layouts.CRAMFS_REGULAR, 4096 * len(tables[it]), places[it], name)
+    for table in tables:
         pointers += struct.pack(f"<{len(table)}I", *(layouts.PLAIN | (front + 4096 * block) // 4 for block in table))
     body = layouts.padded(bytes(76) + inodes + pointers, 4096)[76:] + chance.randbytes(4 * 4096)
     root = layouts.inode(layouts.CRAMFS_DIRECTORY, len(inodes), 76)

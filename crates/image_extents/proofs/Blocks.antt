@@ -1,17 +1,18 @@
 -- Extents of cramfs, block by block and record by record.
-use Rattle.std.proofs.Common.{◌≡◌, ◌<◌, ℕ, suc, ◌+◌, ◌-◌, ◌*◌, List, [], ◌∷◌, ◌++◌, length, Bool, true, false, refl}
+use Rattle.std.proofs.Common.{◌≡◌, ◌<◌, ℕ, zero, suc, ◌+◌, ◌-◌, ◌*◌, List, [], ◌∷◌, ◌++◌, length, Bool, true, false}
+use Rattle.std.proofs.Common.{refl}
 use Rattle.std.proofs.Common.{sym, ap}
-use Rattle.std.proofs.Common.{◌∙◌, arith, min, if◌then◌else◌}
+use Rattle.std.proofs.Common.{◌∙◌, arith, min, if◌then◌else◌, take, get_or, length-take}
+use Rattle.std.proofs.lemmas.List.{take_more}
 use Rattle.cramfs_format.specs.declared.order.Order.{Order}
 use Rattle.cramfs_format.specs.Order.{word}
 use Rattle.cramfs_format.specs.Inode.{block_start}
 use Rattle.image_extents.specs.declared.extent.Record.{Record}
 use Rattle.image_extents.specs.declared.extent.Extent.{Extent}
-use Rattle.image_extents.specs.declared.extent.Kind.TheVariants.{Super, Data}
-use Rattle.cramfs_format.specs.Refers.{root_place}
-use Rattle.image_extents.specs.Listed.{cramfs_entry, root_entry}
-use Rattle.image_extents.specs.Found.{found, goes_on, longer, with_block, with_blocks, with_list, with_contents}
-use Rattle.image_extents.specs.Found.{with_records}
+use Rattle.image_extents.specs.declared.extent.Kind.TheVariants.{Data}
+use Rattle.image_extents.specs.Found.{goes_on, longer, with_block, with_blocks, with_list, with_contents}
+use Rattle.image_extents.specs.Found.{table_in, with_record, with_records}
+use Rattle.image_extents.specs.Tables.{is_first}
 
 -- a block behind a last extent
 pub block_last : (j : Bool) (xs : List Extent) (x y : Extent)
@@ -68,39 +69,41 @@ block_more j o b i table size count k xs ys all y h inv ey es =
     ∙ sym (ap (λ (v : ℕ). with_blocks j o b i xs v (table + 4 * k) (size - 4096 * k) (4096 * k)) n) ∙ inv
 
 -- a record more
-records_push : (j : Bool) (o : Order) (b : List ℕ) (xs : List Extent) (n : ℕ) (rs : List Record) (x : Record)
-    → with_records j o b xs n (rs ++ x ∷ [])
-    ≡ with_contents j o b x.offset (n + length rs) (with_list o b x.offset (n + length rs) (with_records j o b xs n rs))
-records_push j o b xs n [] x =
+records_push : (j : Bool) (o : Order) (b : List ℕ) (all : List Record) (xs : List Extent) (n : ℕ) (rs : List Record)
+    (x : Record)
+    → with_records j o b all xs n (rs ++ x ∷ [])
+    ≡ with_record j o b all (with_records j o b all xs n rs) (n + length rs) x
+records_push j o b all xs n [] x =
     let z : n ≡ n + 0 = omega arith in
-    ap (λ (v : ℕ). with_contents j o b x.offset v (with_list o b x.offset v xs)) z
-records_push j o b xs n (y ∷ ys) x =
+    ap (λ (v : ℕ). with_record j o b all xs v x) z
+records_push j o b all xs n (y ∷ ys) x =
     let m : suc n + length ys ≡ n + suc (length ys) = omega arith in
-    let zs : List Extent = with_contents j o b y.offset n (with_list o b y.offset n xs) in
-    records_push j o b zs (suc n) ys x
-    ∙ ap (λ (v : ℕ). with_contents j o b x.offset v (with_list o b x.offset v (with_records j o b zs (suc n) ys))) m
+    let zs : List Extent = with_record j o b all xs n y in
+    records_push j o b all zs (suc n) ys x
+    ∙ ap (λ (v : ℕ). with_record j o b all (with_records j o b all zs (suc n) ys) v x) m
 
-pub found_on : (j : Bool) (o : Order) (b : List ℕ) (p d number : ℕ) (records more : List Record) (entry : Record)
-    (extents far : List Extent)
-    → extents ≡ with_records j o b (found Super 0 76 0 0) 0 records
-    → number ≡ length records → entry ≡ cramfs_entry o b p d → more ≡ records ++ entry ∷ []
-    → far ≡ with_contents j o b p number (with_list o b p number extents)
-    → far ≡ with_records j o b (found Super 0 76 0 0) 0 more
-found_on j o b p d number records more entry extents far inv nu ey em ef =
-    let z : 0 + length records ≡ length records = omega arith in
-    let m : more ≡ records ++ cramfs_entry o b p d ∷ [] = em ∙ ap (λ (v : Record). records ++ v ∷ []) ey in
-    ef ∙ ap (λ (v : ℕ). with_contents j o b p v (with_list o b p v extents)) nu
-    ∙ ap (λ (v : List Extent). with_contents j o b p (length records) (with_list o b p (length records) v)) inv
-    ∙ sym (ap (with_records j o b (found Super 0 76 0 0) 0) m
-    ∙ records_push j o b (found Super 0 76 0 0) 0 records (cramfs_entry o b p d)
-    ∙ ap (λ (v : ℕ). with_contents j o b p v (with_list o b p v
-    (with_records j o b (found Super 0 76 0 0) 0 records))) z)
+pub found_more : (j : Bool) (o : Order) (b : List ℕ) (all : List Record) (xs : List Extent) (rs : List Record) (i : ℕ)
+    (d : Record) → i < length rs
+    → with_records j o b all xs 0 (take (i + 1) rs)
+    ≡ with_record j o b all (with_records j o b all xs 0 (take i rs)) i (get_or rs i d)
+found_more j o b all xs rs i d h =
+    let l = length-take i rs in
+    let n : 0 + length (take i rs) ≡ i = grind (arith, l, h) in
+    ap (with_records j o b all xs 0) (take_more rs i d h)
+    ∙ records_push j o b all xs 0 (take i rs) (get_or rs i d)
+    ∙ ap (λ (v : ℕ). with_record j o b all (with_records j o b all xs 0 (take i rs)) v (get_or rs i d)) n
 
-pub found_first : (j : Bool) (o : Order) (b : List ℕ) (records : List Record) (none before extents : List Extent)
-    → records ≡ root_entry root_place ∷ [] → none ≡ [] → before ≡ none ++ found Super 0 76 0 0
-    → extents ≡ with_contents j o b root_place 0 (with_list o b root_place 0 before)
-    → extents ≡ with_records j o b (found Super 0 76 0 0) 0 records
-found_first j o b records none before extents z y x f =
-    f ∙ ap (λ (v : List Extent). with_contents j o b root_place 0 (with_list o b root_place 0 v))
-    (x ∙ ap (λ (v : List Extent). v ++ found Super 0 76 0 0) y)
-    ∙ sym (ap (with_records j o b (found Super 0 76 0 0) 0) z)
+-- the first record with its block pointers, or one that has none; and another one
+pub record_first : (j : Bool) (o : Order) (b : List ℕ) (all : List Record) (xs : List Extent) (n : ℕ) (x : Record)
+    → is_first (table_in o b) all n x ≡ true
+    → with_record j o b all xs n x ≡ with_contents j o b x.offset n (with_list o b x.offset n xs)
+record_first j o b all xs n x h = rw h refl
+
+pub record_later : (j : Bool) (o : Order) (b : List ℕ) (all : List Record) (xs : List Extent) (n : ℕ) (x : Record)
+    → is_first (table_in o b) all n x ≡ false → with_record j o b all xs n x ≡ xs
+record_later j o b all xs n x h = rw h refl
+
+pub any_record : (rs : List Record) (i : ℕ) (a b : Record) → i < length rs → get_or rs i a ≡ get_or rs i b
+any_record [] i a b h = absurd (omega (arith, h))
+any_record (x ∷ xs) zero a b h = refl
+any_record (x ∷ xs) (suc i) a b h = any_record xs i a b (omega (arith, h))

@@ -1,13 +1,13 @@
 -- The extents of a cramfs image of which no blocks are joined.
 use Rattle.std.proofs.Common.{◌≡◌, ◌≤◌, ◌<◌, ◌^◌, ℕ, zero, suc, ◌+◌, ◌-◌, ◌*◌, ◌==◌, List, [], ◌∷◌, ◌++◌, length, map}
-use Rattle.std.proofs.Common.{refl, sym, ap}
+use Rattle.std.proofs.Common.{refl, sym, ap, inl, inr, ◌⊎◌}
 use Rattle.std.proofs.Common.{subst, ◌∙◌, arith, true, false, if◌then◌else◌, flat_map, min, append_assoc, append-nil}
 use Rattle.std.proofs.lemmas.List.{map-append}
 use Rattle.std.proofs.lemmas.Grind.{flat_map-append}
 use Rattle.std.proofs.lemmas.List.Sorted.{Contains-permutation, IsPermutation-sym}
 use Rattle.rom_fields.specs.declared.span.Extent.TheVariants as span
 use Rattle.rom_fields.specs.declared.span.Span.{Span}
-use Rattle.rom_fields.specs.Extents.{OverlapsAt, added}
+use Rattle.rom_fields.specs.Extents.{MeetsAt, OverlapsAt, added}
 use Rattle.record_forest.specs.declared.reference.Reference.{Reference}
 use Rattle.record_forest.specs.Forest.{Forest, none, at, rows, all_rows, count}
 use Rattle.cramfs_format.specs.declared.order.Order.{Order}
@@ -22,8 +22,9 @@ use Rattle.image_extents.specs.declared.extent.Extent.{Extent}
 use Rattle.image_extents.specs.declared.extent.Extents.{Extents}
 use Rattle.image_extents.specs.declared.extent.Kind.TheVariants.{Super, List as ListOf, Table, Data}
 use Rattle.image_extents.specs.Listed.{listed, all_listed, cramfs_entry, cramfs_listed}
-use Rattle.image_extents.specs.Found.{found, with_block, with_blocks, with_list, with_contents, with_records}
-use Rattle.image_extents.specs.Found.{cramfs_all_found}
+use Rattle.image_extents.specs.Found.{found, with_block, with_blocks, with_list, with_contents, with_record}
+use Rattle.image_extents.specs.Found.{cramfs_all_found, table_in, with_records}
+use Rattle.image_extents.specs.Tables.{is_first}
 use Rattle.image_extents.specs.Sorted.{AreBlocks}
 use Rattle.image_extents.specs.Apart.{AreApart}
 use Rattle.image_extents.proofs.Apart.{span_of, apart_of, span_found}
@@ -109,17 +110,84 @@ contents_spans o b p i xs =
 abbrev spans_at : Order → List ℕ → Record → List Span
 spans_at o b x = cramfs_record o b x.offset
 
-records_spans : (o : Order) (b : List ℕ) (xs : List Extent) (n : ℕ) (rs : List Record)
-    → map span_of (with_records false o b xs n rs) ≡ map span_of xs ++ flat_map (spans_at o b) rs
-records_spans o b xs n [] = sym (append-nil (map span_of xs))
-records_spans o b xs n (x ∷ rs) =
+-- those of a record, if it is the first with its block pointers
+abbrev first_spans : Order → List ℕ → List Record → ℕ → Record → List Span
+first_spans o b all n x = if is_first (table_in o b) all n x then spans_at o b x else []
+
+abbrev firsts : Order → List ℕ → List Record → ℕ → List Record → List Span
+firsts o b all n [] = []
+firsts o b all n (x ∷ rs) = first_spans o b all n x ++ firsts o b all (suc n) rs
+
+record_spans : (o : Order) (b : List ℕ) (all : List Record) (xs : List Extent) (n : ℕ) (x : Record)
+    → map span_of (with_record false o b all xs n x) ≡ map span_of xs ++ first_spans o b all n x
+record_spans o b all xs n x =
     let ys : List Extent = with_list o b x.offset n xs in
-    records_spans o b (with_contents false o b x.offset n ys) (suc n) rs
-    ∙ ap (λ (v : List Span). v ++ flat_map (spans_at o b) rs)
-    (contents_spans o b x.offset n ys
-    ∙ ap (λ (v : List Span). v ++ cramfs_contents o b x.offset) (list_spans o b x.offset n xs)
-    ∙ append_assoc (map span_of xs) (cramfs_list o b x.offset) (cramfs_contents o b x.offset))
-    ∙ append_assoc (map span_of xs) (cramfs_record o b x.offset) (flat_map (spans_at o b) rs)
+    elim (is_first (table_in o b) all n x) as
+    (λ v. map span_of (if v then with_contents false o b x.offset n ys else xs)
+    ≡ map span_of xs ++ (if v then spans_at o b x else [])) [
+      | true ↦ contents_spans o b x.offset n ys
+          ∙ ap (λ (v : List Span). v ++ cramfs_contents o b x.offset) (list_spans o b x.offset n xs)
+          ∙ append_assoc (map span_of xs) (cramfs_list o b x.offset) (cramfs_contents o b x.offset)
+      | false ↦ sym (append-nil (map span_of xs))
+    ]
+
+records_spans : (o : Order) (b : List ℕ) (all : List Record) (xs : List Extent) (n : ℕ) (rs : List Record)
+    → map span_of (with_records false o b all xs n rs) ≡ map span_of xs ++ firsts o b all n rs
+records_spans o b all xs n [] = sym (append-nil (map span_of xs))
+records_spans o b all xs n (x ∷ rs) =
+    records_spans o b all (with_record false o b all xs n x) (suc n) rs
+    ∙ ap (λ (v : List Span). v ++ firsts o b all (suc n) rs) (record_spans o b all xs n x)
+    ∙ append_assoc (map span_of xs) (first_spans o b all n x) (firsts o b all (suc n) rs)
+
+-- ---- spans of which some are left out
+
+-- ys has the spans xs, in this order, and others
+abbrev IsPart : List Span → List Span → Type 0
+IsPart xs [] = xs ≡ []
+IsPart xs (y ∷ ys) = IsPart xs ys ⊎ ((rest : List Span) × (xs ≡ y ∷ rest) × IsPart rest ys)
+
+part_all : (xs : List Span) → IsPart xs xs
+part_all [] = refl
+part_all (x ∷ xs) = inr (xs, refl, part_all xs)
+
+part_none : (ys : List Span) → IsPart [] ys
+part_none [] = refl
+part_none (y ∷ ys) = inl (part_none ys)
+
+part_join : (xs ys us vs : List Span) → IsPart xs ys → IsPart us vs → IsPart (xs ++ us) (ys ++ vs)
+part_join xs [] us vs h k = subst (λ (v : List Span). IsPart (v ++ us) vs) (sym h) k
+part_join xs (y ∷ ys) us vs (inl h) k = inl (part_join xs ys us vs h k)
+part_join xs (y ∷ ys) us vs (inr h) k =
+    inr (h.0 ++ us, ap (λ (v : List Span). v ++ us) h.1, part_join h.0 ys us vs h.2 k)
+
+part_meets : (z : Span) (xs ys : List Span) (q : ℕ) → IsPart xs ys → MeetsAt z xs q → MeetsAt z ys q
+part_meets z xs [] q h m = subst (λ (v : List Span). MeetsAt z v q) h m
+part_meets z xs (y ∷ ys) q (inl h) m = inr (part_meets z xs ys q h m)
+part_meets z xs (y ∷ ys) q (inr h) m = elim (subst (λ (v : List Span). MeetsAt z v q) h.1 m) [
+  | inl o ↦ inl o
+  | inr r ↦ inr (part_meets z h.0 ys q h.2 r)
+]
+
+part_overlaps : (xs ys : List Span) (q : ℕ) → IsPart xs ys → OverlapsAt xs q → OverlapsAt ys q
+part_overlaps xs [] q h m = subst (λ (v : List Span). OverlapsAt v q) h m
+part_overlaps xs (y ∷ ys) q (inl h) m = inr (part_overlaps xs ys q h m)
+part_overlaps xs (y ∷ ys) q (inr h) m = elim (subst (λ (v : List Span). OverlapsAt v q) h.1 m) [
+  | inl o ↦ inl (part_meets y h.0 ys q h.2 o)
+  | inr r ↦ inr (part_overlaps h.0 ys q h.2 r)
+]
+
+part_first : (o : Order) (b : List ℕ) (all : List Record) (n : ℕ) (x : Record)
+    → IsPart (first_spans o b all n x) (spans_at o b x)
+part_first o b all n x = elim (is_first (table_in o b) all n x) as
+    (λ v. IsPart (if v then spans_at o b x else []) (spans_at o b x))
+    [ true ↦ part_all (spans_at o b x) | false ↦ part_none (spans_at o b x) ]
+
+part_firsts : (o : Order) (b : List ℕ) (all : List Record) (n : ℕ) (rs : List Record)
+    → IsPart (firsts o b all n rs) (flat_map (spans_at o b) rs)
+part_firsts o b all n [] = refl
+part_firsts o b all n (x ∷ rs) =
+    part_join (first_spans o b all n x) (spans_at o b x) (firsts o b all (suc n) rs) (flat_map (spans_at o b) rs)
+    (part_first o b all n x) (part_firsts o b all (suc n) rs)
 
 listed_spans : (o : Order) (b : List ℕ) (n d : ℕ) (f : Forest)
     → flat_map (spans_at o b) (listed (cramfs_entry o b) n d f) ≡ taken o b f
@@ -169,12 +237,23 @@ whole_rows o b (at q own after) =
     (rows_take o b (g.own g.top) q q 1 own)
     ∙ ap (λ (v : List Span). taken o b own ++ v) (rows_take o b (g.after g.top) q q 1 after))
 
-cramfs_spans : (o : Order) (b : List ℕ) → map span_of (cramfs_all_found false o b) ≡ cramfs_extents o b
-unfolding cramfs_all_found cramfs_listed cramfs_extents
+all_listed_is : (o : Order) (b : List ℕ) → flat_map (spans_at o b) (cramfs_listed o b)
+    ≡ flat_map (row_extents o b) (all_rows (references o b) (cramfs_forest o b))
+unfolding cramfs_listed
+all_listed_is o b = whole_listed o b (cramfs_forest o b) ∙ sym (whole_rows o b (cramfs_forest o b))
+
+cramfs_spans : (o : Order) (b : List ℕ) → IsPart (map span_of (cramfs_all_found false o b)) (cramfs_extents o b)
+unfolding cramfs_all_found cramfs_extents
 cramfs_spans o b =
-    records_spans o b (found Super 0 76 0 0) 0 (cramfs_listed o b)
-    ∙ ap (λ (v : List Span). added span.Super 0 76 ++ v)
-    (whole_listed o b (cramfs_forest o b) ∙ sym (whole_rows o b (cramfs_forest o b)))
+    let rs : List Record = cramfs_listed o b in
+    let is : flat_map (spans_at o b) rs ≡ flat_map (row_extents o b) (all_rows (references o b) (cramfs_forest o b)) =
+    all_listed_is o b in
+    subst (λ (v : List Span). IsPart v (added span.Super 0 76
+    ++ flat_map (row_extents o b) (all_rows (references o b) (cramfs_forest o b))))
+    (sym (records_spans o b rs (found Super 0 76 0 0) 0 rs))
+    (subst (λ (v : List Span). IsPart (added span.Super 0 76 ++ firsts o b rs 0 rs) (added span.Super 0 76 ++ v)) is
+    (part_join (added span.Super 0 76) (added span.Super 0 76) (firsts o b rs 0 rs) (flat_map (spans_at o b) rs)
+    (part_all (added span.Super 0 76)) (part_firsts o b rs 0 rs)))
 
 pub cramfs_apart : (o : Order) (b : List ℕ) (most deepest : ℕ) (f : Forest) (e : Extents) → IsTree o b most deepest f
     → length (all_rows (references o b) f) ≤ 2 ^ 32 → AreBlocks false o b e → AreApart e.extents.items
@@ -186,7 +265,8 @@ cramfs_apart o b most deepest f e t few a =
     (added span.Super 0 76 ++ flat_map (row_extents o b) (all_rows (references o b) v)) q) same m) in
     let apart : AreApart (cramfs_all_found false o b) =
     apart_of (cramfs_all_found false o b)
-    (λ q m. none_at q (subst (λ (v : List Span). OverlapsAt v q) (cramfs_spans o b) m)) in
+    (λ q m. none_at q (part_overlaps (map span_of (cramfs_all_found false o b)) (cramfs_extents o b) q
+    (cramfs_spans o b) m)) in
     λ x y p cx cy vx vy. apart x y p
     (Contains-permutation e.extents.items (cramfs_all_found false o b) x (IsPermutation-sym _ _ a.extents.same) cx)
     (Contains-permutation e.extents.items (cramfs_all_found false o b) y

@@ -9,19 +9,24 @@ use Rattle.std.proofs.lemmas.List.{take-take}
 use Rattle.std.proofs.lemmas.List.Elements.{All-from_recursion}
 use Rattle.std.specs.List.{All, AllByRecursion as Every}
 use Rattle.std.specs.List.Sorted.{IsPermutation}
+use Rattle.std.specs.Prelude.{slice_get, Option, None, Some}
+use Rattle.record_forest.proofs.Lists.{every_weaker}
 use Rattle.record_forest.specs.Forest.{Forest, none, at}
+use Rattle.rom_tree.specs.Image.{IsRun}
 use Rattle.rom_tree.proofs.ByKind.{by_kind_directory, body_places_is}
 use Rattle.rom_tree.specs.Names.{Name, named, names, node_names, entries_names}
 use Rattle.rom_tree.specs.Tree.{Node, node, Body, directory, regular, symlink, block, character, socket}
 use Rattle.rom_tree.specs.Tree.{fifo, Entries}
 use Rattle.rom_tree.specs.Tree.{depth, entries_depth, places_of}
 use Rattle.cramfs_format.specs.declared.order.Order.{Order}
-use Rattle.cramfs_format.specs.Inode.{has_data, list_start, list_end, name_of, name_room, type_of}
+use Rattle.cramfs_format.specs.Inode.{block_count, has_data, list_start, list_end, name_of, name_room, offset_of}
+use Rattle.cramfs_format.specs.Inode.{size_of, type_of}
 use Rattle.cramfs_format.specs.Inode.{without_zeros, before_rest}
 use Rattle.cramfs_format.specs.Made.{StandsAt, grow}
 use Rattle.cramfs_format.specs.Refers.{root_place}
 use Rattle.cramfs_format.specs.Superblock.{accessible}
-use Rattle.cramfs_format.specs.Tree.{attributes_at, below_root, entries_at, kind_numbers, node_of, places_at, tree_of}
+use Rattle.cramfs_format.specs.Tree.{attributes_at, below_root, blocks_from, entries_at, kind_numbers, node_of}
+use Rattle.cramfs_format.specs.Tree.{places_at, tree_of}
 use Rattle.cramfs_format.proofs.Bridge.{below_of}
 use Rattle.cramfs_format.proofs.Contents.{pick_data}
 use Rattle.cramfs_format.proofs.Depths.{node_depth}
@@ -29,18 +34,22 @@ use Rattle.cramfs_format.proofs.Lists.{other_list}
 use Rattle.image_info.specs.Gaps.{most_records, cramfs_forest}
 use Rattle.image_info.specs.Held.{HoldsCramfs}
 use Rattle.image_info.proofs.Forests.{cramfs_is}
+use Rattle.image_extents.specs.declared.extent.Extent.{Extent}
 use Rattle.image_extents.specs.declared.extent.Record.{Record}
 use Rattle.image_extents.specs.declared.extent.Extents.{Extents}
 use Rattle.image_extents.specs.declared.extent.Kind.TheVariants.{Super}
-use Rattle.image_extents.specs.Found.{found, cramfs_all_found, with_records}
+use Rattle.image_extents.specs.Found.{found, cramfs_all_found, cramfs_nexts, table_in, with_records}
+use Rattle.image_extents.specs.Tables.{led, nexts, table_by}
 use Rattle.image_extents.specs.Listed.{listed, cramfs_entry, cramfs_listed, root_entry}
-use Rattle.image_extents.specs.Owned.{AreOfFiles}
+use Rattle.image_extents.specs.Lines.{owned, owners}
+use Rattle.image_extents.specs.Owned.{AreOfFiles, HasBytes, run_of}
 use Rattle.image_extents.specs.Sorted.{AreCramfs}
 use Rattle.std.proofs.lemmas.List.Sorted.{All-permutation}
 use Rattle.image_extents.proofs.Bytes.{has_bytes}
 use Rattle.image_extents.proofs.CramfsWalk.{whole}
-use Rattle.image_extents.proofs.DataRuns.{Of, other_found, records_of}
+use Rattle.image_extents.proofs.DataRuns.{Of, other_found, places_by, places_in, records_of}
 use Rattle.image_extents.proofs.Named.{Format, AreOpen, Each, IsOpen, are_named}
+use Rattle.image_extents.proofs.Sharing.{led_same, none_some, some_is}
 use Rattle.image_extents.proofs.Texts.{path_root}
 
 -- ---- names
@@ -151,25 +160,83 @@ module _ (o : Order) (b : List ℕ) (list : Forest) (e : Extents) where
   each_of : (joined : Bool) → cramfs_listed o b ≡ records → Every (Of records joined o b) (cramfs_all_found joined o b)
   unfolding cramfs_all_found
   each_of joined is = subst (λ (v : List Record). Every (Of records joined o b)
-      (with_records joined o b (found Super 0 76 0 0) 0 v)) (sym is)
-      (records_of records joined o b 0 [] records (found Super 0 76 0 0) refl refl
+      (with_records joined o b v (found Super 0 76 0 0) 0 v)) (sym is)
+      (records_of records joined o b records 0 [] records (found Super 0 76 0 0) refl refl
       (other_found records (λ p. has_data (type_of o b p)) (places_at o b) Super (λ d. absurd (cc)) 0 76 0 0))
 
+  -- records with the same block pointers have the same places
+  places_of_table : (x y : Option Record) → table_by (table_in o b) x ≡ table_by (table_in o b) y
+      → places_by (λ p. has_data (type_of o b p)) (places_at o b) x
+      ≡ places_by (λ p. has_data (type_of o b p)) (places_at o b) y
+  unfolding places_at
+  places_of_table None None h = refl
+  places_of_table None (Some y) h =
+      let t : ℕ × ℕ = (offset_of o b y.offset, size_of o b y.offset) in
+      elim (has_data (type_of o b y.offset)) as
+      (λ v. None ≡ (if v then Some t else None) → [] ≡ (if v then places_at o b y.offset else []))
+      [ true ↦ λ e. absurd (none_some t e) | false ↦ λ e. refl ] h
+  places_of_table (Some x) None h =
+      let t : ℕ × ℕ = (offset_of o b x.offset, size_of o b x.offset) in
+      elim (has_data (type_of o b x.offset)) as
+      (λ v. (if v then Some t else None) ≡ None → (if v then places_at o b x.offset else []) ≡ [])
+      [ true ↦ λ e. absurd (none_some t (sym e)) | false ↦ λ e. refl ] h
+  places_of_table (Some x) (Some y) h = by (has_data (type_of o b x.offset)) (has_data (type_of o b y.offset)) h
+    where
+      same : (s t : ℕ × ℕ) → s ≡ t
+          → blocks_from o b (block_count s.1) s.0 s.1 ≡ blocks_from o b (block_count t.1) t.0 t.1
+      same s t e = ap (λ (v : ℕ × ℕ). blocks_from o b (block_count v.1) v.0 v.1) e
+
+      s : ℕ × ℕ
+      s = (offset_of o b x.offset, size_of o b x.offset)
+
+      t : ℕ × ℕ
+      t = (offset_of o b y.offset, size_of o b y.offset)
+
+      by : (u v : Bool) → (if u then Some s else None) ≡ (if v then Some t else None)
+          → (if u then places_at o b x.offset else []) ≡ (if v then places_at o b y.offset else [])
+      by true true e = same s t (some_is s t e)
+      by true false e = absurd (none_some s (sym e))
+      by false true e = absurd (none_some t e)
+      by false false e = refl
+
+  same_places : (next : List (Option ℕ)) → next ≡ nexts (table_in o b) 0 records → (most j : ℕ)
+      → Every (λ (i : ℕ). places_in records (λ p. has_data (type_of o b p)) (places_at o b) i
+      ≡ places_in records (λ p. has_data (type_of o b p)) (places_at o b) j) (led next most (Some j))
+  same_places next is most j =
+      every_weaker
+      (λ (i : ℕ). table_by (table_in o b) (slice_get records i) ≡ table_by (table_in o b) (slice_get records j))
+      (λ (i : ℕ). places_in records (λ p. has_data (type_of o b p)) (places_at o b) i
+      ≡ places_in records (λ p. has_data (type_of o b p)) (places_at o b) j)
+      (λ i h. places_of_table (slice_get records i) (slice_get records j) h)
+      (led next most (Some j)) (led_same (table_in o b) records next is most j)
+
+  nexts_are : cramfs_listed o b ≡ records → cramfs_nexts o b ≡ nexts (table_in o b) 0 records
+  unfolding cramfs_nexts
+  nexts_are is = ap (nexts (table_in o b) 0) is
+
   of_files : (joined : Bool) → cramfs_listed o b ≡ records → e.bytes.now ≡ b → e.records.items ≡ cramfs_listed o b
-      → IsPermutation (cramfs_all_found joined o b) e.extents.items
+      → e.next.items ≡ cramfs_nexts o b → IsPermutation (cramfs_all_found joined o b) e.extents.items
       → type_of o b root_place ≡ 4 → StandsAt o b (list_end o b root_place) (list_start o b root_place) list
       → entries_depth (entries_at o b list) ≤ 64
       → AreOfFiles (node_of o b root_place (entries_at o b list)) e
-  of_files joined is bytes items moved t s deep =
+  of_files joined is bytes items next moved t s deep =
       let tree : Node = node_of o b root_place (entries_at o b list) in
       let all : All (Of records joined o b) e.extents.items =
       All-permutation (Of records joined o b) (cramfs_all_found joined o b) e.extents.items moved
       (All-from_recursion (Of records joined o b) (cramfs_all_found joined o b) (each_of joined is)) in
-      λ k d l kind. has_bytes (format o b) (root_entry root_place) (listed (cramfs_entry o b) 1 0 list)
+      λ k d l kind.
+      let x : Extent = get_or e.extents.items k d in
+      let P : ℕ → List ℕ = places_in records (λ p. has_data (type_of o b p)) (places_at o b) in
+      let Same : ℕ → Type 0 = λ i. P i ≡ P x.owner in
+      let Held : ℕ → Type 0 = λ i. HasBytes tree e (owned x i) in
+      All-from_recursion Held (owners e x) (every_weaker Same Held (λ i same.
+      has_bytes (format o b) (root_entry root_place) (listed (cramfs_entry o b) 1 0 list)
       (λ p. has_data (type_of o b p)) (places_at o b) (places_are o b) (all_shown (listed (cramfs_entry o b) 1 0 list))
       (no_data t)
-      (entries_names [] (entries_at o b list)) (named_below s deep) tree _ e (get_or e.extents.items k d)
-      (root_names o b list t) bytes (items ∙ is) (all k d l kind)
+      (entries_names [] (entries_at o b list)) (named_below s deep) tree _ e (owned x i)
+      (root_names o b list t) bytes (items ∙ is)
+      (subst (λ (v : List ℕ). IsRun v x.offset (run_of x)) (sym same) (all k d l kind)))
+      (owners e x) (same_places e.next.items (next ∙ nexts_are is) (length e.records.items) x.owner))
 
 pub cramfs_bytes : (o : Order) (all : List ℕ) (e : Extents) (h : HoldsCramfs o all) → AreCramfs o (accessible o all) e
     → AreOfFiles (tree_of o (accessible o all) h.forest) e
@@ -187,5 +254,5 @@ cramfs_bytes o all e h a =
     let same_depth = node_depth o b root_place list stands in
     let deep : entries_depth (entries_at o b list) ≤ 64 = grind (arith, shallow, same_depth) in
     subst (λ (f : Forest). AreOfFiles (tree_of o b f) e) same
-    (of_files o b list e a.joined (whole o b) a.blocks.bytes a.blocks.records a.blocks.extents.same
+    (of_files o b list e a.joined (whole o b) a.blocks.bytes a.blocks.records a.blocks.next a.blocks.extents.same
     h.superblock.root.directory stands deep)

@@ -22,7 +22,8 @@ use Rattle.image_extents.specs.declared.extent.Extent.{Extent}
 use Rattle.image_extents.specs.declared.extent.Kind.{Kind}
 use Rattle.image_extents.specs.declared.extent.Kind.TheVariants.{Header, List as ListOf, Table, Data}
 use Rattle.image_extents.specs.Found.{found, romfs_found, found_from, goes_on, is_data, longer, with_block, with_blocks}
-use Rattle.image_extents.specs.Found.{with_list, with_contents, with_records}
+use Rattle.image_extents.specs.Found.{table_in, with_list, with_contents, with_record, with_records}
+use Rattle.image_extents.specs.Tables.{is_first}
 use Rattle.image_extents.specs.Owned.{run_of}
 use Rattle.image_extents.proofs.Named.{at_index}
 
@@ -200,15 +201,23 @@ module _ (rs : List Record) (j : Bool) (o : Order) (b : List ℕ) where
         | false ↦ λ d. h
       ] refl
 
-  pub records_of : (n : ℕ) (before ys : List Record) (xs : List Extent) → rs ≡ before ++ ys → length before ≡ n
-      → Every Of xs → Every Of (with_records j o b xs n ys)
-  records_of n before [] xs is l h = h
-  records_of n before (x ∷ ys) xs is l h =
+  record_of_table : (all : List Record) (n : ℕ) (x : Record) (xs : List Extent)
+      → (blocks x.offset ≡ true → places_in rs blocks (cramfs_places_at o b) n ≡ cramfs_places_at o b x.offset)
+      → Every Of xs → Every Of (with_record j o b all xs n x)
+  record_of_table all n x xs e h = elim (is_first (table_in o b) all n x) as
+      (λ v. Every Of (if v then with_contents j o b x.offset n (with_list o b x.offset n xs) else xs)) [
+        | true ↦ contents_of x.offset n (with_list o b x.offset n xs) e (list_of x.offset n xs h)
+        | false ↦ h
+      ]
+
+  pub records_of : (all : List Record) (n : ℕ) (before ys : List Record) (xs : List Extent) → rs ≡ before ++ ys
+      → length before ≡ n → Every Of xs → Every Of (with_records j o b all xs n ys)
+  records_of all n before [] xs is l h = h
+  records_of all n before (x ∷ ys) xs is l h =
       let a = length-append before (x ∷ []) in
-      records_of (suc n) (before ++ x ∷ []) ys (with_contents j o b x.offset n (with_list o b x.offset n xs))
+      records_of all (suc n) (before ++ x ∷ []) ys (with_record j o b all xs n x)
       (is ∙ moved before x ys) (omega (arith, a, l))
-      (contents_of x.offset n (with_list o b x.offset n xs)
-      (places_is rs blocks (cramfs_places_at o b) before x ys n is l) (list_of x.offset n xs h))
+      (record_of_table all n x xs (places_is rs blocks (cramfs_places_at o b) before x ys n is l) h)
     where
       moved : (before : List Record) (x : Record) (ys : List Record) → before ++ x ∷ ys ≡ (before ++ x ∷ []) ++ ys
       moved [] x ys = refl

@@ -39,7 +39,9 @@ use Rattle.image_extents.specs.declared.extent.Kind.TheVariants.{Super, Header, 
 use Rattle.image_extents.specs.Listed.{listed, all_listed, romfs_entry, romfs_listed, cramfs_entry, cramfs_listed}
 use Rattle.image_extents.specs.Found.{found, romfs_found, found_from, romfs_all_found, is_data, goes_on}
 use Rattle.image_extents.specs.Found.{longer, with_block}
-use Rattle.image_extents.specs.Found.{with_blocks, with_list, with_contents, with_records, cramfs_all_found}
+use Rattle.image_extents.specs.Found.{with_blocks, with_list, with_contents, with_record, with_records}
+use Rattle.image_extents.specs.Found.{cramfs_all_found, table_in}
+use Rattle.image_extents.specs.Tables.{is_first}
 use Rattle.image_extents.specs.Sorted.{AreRomfs, AreCramfs}
 use Rattle.image_extents.proofs.CramfsWalk.{whole}
 use Rattle.image_extents.proofs.Shares.{Inside}
@@ -239,12 +241,20 @@ module _ (j : Bool) (o : Order) (b : List ℕ) where
         | false ↦ λ e. h
       ] refl
 
-  records_inside : (xs : List Extent) (n : ℕ) (rs : List Record) → Every (λ (x : Record). HasBody o b x.offset) rs
-      → Every (Inside (length b)) xs → Every (Inside (length b)) (with_records j o b xs n rs)
-  records_inside xs n [] s h = h
-  records_inside xs n (x ∷ rs) s h =
-      records_inside (with_contents j o b x.offset n (with_list o b x.offset n xs)) (suc n) rs s.1
-      (contents_inside x.offset n (with_list o b x.offset n xs) s.0 (list_inside x.offset n xs s.0 h))
+  record_inside : (all : List Record) (xs : List Extent) (n : ℕ) (x : Record) → HasBody o b x.offset
+      → Every (Inside (length b)) xs → Every (Inside (length b)) (with_record j o b all xs n x)
+  record_inside all xs n x s h = elim (is_first (table_in o b) all n x) as (λ v. Every (Inside (length b))
+      (if v then with_contents j o b x.offset n (with_list o b x.offset n xs) else xs)) [
+        | true ↦ contents_inside x.offset n (with_list o b x.offset n xs) s (list_inside x.offset n xs s h)
+        | false ↦ h
+      ]
+
+  records_inside : (all : List Record) (xs : List Extent) (n : ℕ) (rs : List Record)
+      → Every (λ (x : Record). HasBody o b x.offset) rs
+      → Every (Inside (length b)) xs → Every (Inside (length b)) (with_records j o b all xs n rs)
+  records_inside all xs n [] s h = h
+  records_inside all xs n (x ∷ rs) s h =
+      records_inside all (with_record j o b all xs n x) (suc n) rs s.1 (record_inside all xs n x s.0 h)
 
 pub cramfs_bodies : (o : Order) (all : List ℕ) → HoldsCramfs o all
     → Every (λ (x : Record). HasBody o (cramfs_accessible o all) x.offset) (cramfs_listed o (cramfs_accessible o all))
@@ -274,6 +284,7 @@ cramfs_all_in o all e h a =
     let l : length b ≡ min (accessible_size o all) (length all) = length-take (accessible_size o all) all in
     let first = found_inside (length b) Super 0 76 0 0 (λ k. omega (arith, l, size, long)) in
     let found_in =
-    records_inside a.joined o b (found Super 0 76 0 0) 0 (cramfs_listed o b) (cramfs_bodies o all h) first in
+    records_inside a.joined o b (cramfs_listed o b) (found Super 0 76 0 0) 0 (cramfs_listed o b) (cramfs_bodies o all h)
+    first in
     subst (λ (v : List ℕ). Every (Inside (length v)) e.extents.items) (sym a.blocks.bytes)
     (moved (length b) (cramfs_all_found a.joined o b) e.extents.items a.blocks.extents.same found_in)

@@ -8,6 +8,8 @@ pub mod CramfsApart
 pub mod Texts
 pub mod Owners
 pub mod Shares
+pub mod Sharing
+pub mod FirstOwners
 pub mod Inside
 pub mod Named
 pub mod DataRuns

@@ -1,20 +1,16 @@
 -- The extents that have a byte, in a list that rises by their starts.
-use Rattle.std.proofs.Common.{◌≡◌, ◌<◌, ◌≤◌, ℕ, zero, suc, ◌+◌, ◌-◌, List, [], ◌∷◌, ◌++◌, length, get_or, take, drop}
-use Rattle.std.proofs.Common.{refl, sym, ap, ◌∙◌, subst, arith, rules}
-use Rattle.std.proofs.Common.{tests, true, false, nat_lt, inl, inr, append-nil, length-drop}
-use Rattle.std.proofs.lemmas.Bool.{cases_lt}
-use Rattle.std.proofs.lemmas.Grind.{flat_map-append}
-use Rattle.std.proofs.lemmas.List.{get_or-drop, take_more, take_all}
+use Rattle.std.proofs.Common.{◌≡◌, ◌<◌, ◌≤◌, ℕ, zero, suc, ◌+◌, ◌-◌, List, [], ◌∷◌, length, get_or, take, drop}
+use Rattle.std.proofs.Common.{refl, sym, ap, ◌∙◌, ◌≢◌, arith, rules}
+use Rattle.std.proofs.Common.{tests, true, false, nat_lt, inl, inr}
+use Rattle.std.proofs.lemmas.Bool.{cases_lt, eq-eqb, ne_eqb}
 use Rattle.std.specs.Prelude.{codes, nat_le, Some, None}
-use Rattle.std.specs.List.{flat_map}
 use Rattle.std.specs.List.Sorted.{IsNonDecreasingBy, IsPartitionPoint}
 use Rattle.image_extents.specs.declared.extent.Extent.{Extent}
 use Rattle.image_extents.specs.declared.extent.Extents.{Extents}
-use Rattle.image_extents.specs.Apart.{AreApart}
-use Rattle.image_extents.specs.Lines.{between, extent_text}
+use Rattle.image_extents.specs.Lines.{between, run_text, starting}
 use Rattle.image_extents.specs.Sorted.{start_of}
-use Rattle.image_extents.specs.Which.{byte_text, inside_text, is_inside, offset_of, which_text}
-use Rattle.image_extents.specs.Which.{at_text, covers, last_begun, lines_after, next_start, owner_line, owners_text}
+use Rattle.image_extents.specs.Which.{inside_text, is_inside, offset_of, which_text}
+use Rattle.image_extents.specs.Which.{at_text, last_begun, lines_after, next_start}
 use Rattle.image_extents.proofs.Chain.{any_of}
 
 pub lt_is : (a b : ℕ) → a < b → nat_lt a b ≡ true
@@ -100,122 +96,62 @@ at_gap base e at xs n d p l h =
 
 pub at_owner : (base : ℕ) (e : Extents) (at : ℕ) (xs : List Extent) (n : ℕ) (d : Extent) → Parts xs (at + 1) (suc n)
     → n < length xs → at < (get_or xs n d).start + (get_or xs n d).len
-    → at_text base e at xs ≡ owners_text base e at xs
+    → at_text base e at xs ≡ run_text base e (Some at) (starting (get_or xs n d).start xs)
 at_owner base e at xs n d p l h =
     at_last base e at xs n d p l ∙ rw (lt_is at ((get_or xs n d).start + (get_or xs n d).len) h) refl
 
--- an extent that has not the byte has no line
-no_cover : (at : ℕ) (x : Extent) → (x.start ≤ at → at < x.start + x.len → ⊥) → covers at x ≡ false
-no_cover at x h = elim (cases_lt at x.start) [
-  | inl l ↦ rw (higher x.start at l) refl
-  | inr l ↦ elim (cases_lt at (x.start + x.len)) [
-    | inl m ↦ absurd (h l m)
-    | inr m ↦ rw (lower x.start at l, le_is at (x.start + x.len) m) refl
-  ]
+-- ---- the extents that begin at an offset stand together
+
+first_is : (s : ℕ) (x : Extent) (xs : List Extent) → x.start ≡ s → starting s (x ∷ xs) ≡ x ∷ starting s xs
+first_is s x xs h = rw (eq-eqb x.start s h) refl
+
+other_is : (s : ℕ) (x : Extent) (xs : List Extent) → x.start ≢ s → starting s (x ∷ xs) ≡ starting s xs
+other_is s x xs h = rw (ne_eqb x.start s h) refl
+
+take_none : (m : ℕ) → [] ≡ take {A = Extent} m []
+take_none zero = refl
+take_none (suc m) = refl
+
+drop_none : (f : ℕ) → [] ≡ drop {A = Extent} f []
+drop_none zero = refl
+drop_none (suc f) = refl
+
+pub starting_is : (s : ℕ) (xs : List Extent) (f n : ℕ) → Parts xs s f → Parts xs (s + 1) n
+    → starting s xs ≡ take (n - f) (drop f xs)
+starting_is s [] f n p q = take_none (n - f) ∙ ap (take (n - f)) (drop_none f)
+starting_is s (x ∷ xs) (suc f) zero p q =
+    let low = p.0 0 x (omega arith) (omega arith) in
+    let high = q.1 0 x (omega arith) (omega arith) in
+    absurd (omega (arith, low, high))
+starting_is s (x ∷ xs) (suc f) (suc n) p q =
+    let low = p.0 0 x (omega arith) (omega arith) in
+    let z : n - f ≡ suc n - suc f = omega arith in
+    other_is s x xs (λ e. absurd (omega (arith, low, e)))
+    ∙ starting_is s xs f n (tail x xs s f p) (tail x xs (s + 1) n q)
+    ∙ ap (λ (v : ℕ). take v (drop f xs)) z
+starting_is s (x ∷ xs) zero (suc n) p q =
+    let low = p.1 0 x (omega arith) (omega arith) in
+    let high = q.0 0 x (omega arith) (omega arith) in
+    let z : n - 0 ≡ n = omega arith in
+    let y : suc n - 0 ≡ suc n = omega arith in
+    first_is s x xs (omega (arith, low, high))
+    ∙ ap (λ (v : List Extent). x ∷ v) (starting_is s xs zero n (tail_none x xs s p) (tail x xs (s + 1) n q)
+    ∙ ap (λ (v : ℕ). take v xs) z)
+    ∙ sym (ap (λ (v : ℕ). take v (x ∷ xs)) y)
+starting_is s (x ∷ xs) zero zero p q =
+    let high = q.1 0 x (omega arith) (omega arith) in
+    other_is s x xs (λ e. absurd (omega (arith, high, e)))
+    ∙ starting_is s xs zero zero (tail_none x xs s p) (tail_none x xs (s + 1) q)
+
+pub first_before : (s : ℕ) (xs : List Extent) (f n : ℕ) (d : Extent) → f ≤ length xs → Parts xs s f → Parts xs (s + 1) n
+    → f ≤ n
+first_before s xs f n d within p q = elim (cases_lt n f) [
+  | inl l ↦
+      let low = p.0 n d (omega arith) l in
+      let high = q.1 n d (omega arith) (omega (arith, l, within)) in
+      absurd (omega (arith, low, high))
+  | inr l ↦ l
 ]
-
-no_line : (base : ℕ) (e : Extents) (at : ℕ) (x : Extent) → (x.start ≤ at → at < x.start + x.len → ⊥)
-    → owner_line base e at x ≡ []
-unfolding owner_line
-no_line base e at x h = rw (no_cover at x h) refl
-
-abbrev HasNot : ℕ → Extent → Type 0
-HasNot at x = x.start ≤ at → at < x.start + x.len → ⊥
-
-owners_cons : (base : ℕ) (e : Extents) (at : ℕ) (x : Extent) (xs : List Extent)
-    → owners_text base e at (x ∷ xs) ≡ owner_line base e at x ++ owners_text base e at xs
-unfolding owners_text
-owners_cons base e at x xs = refl
-
-owners_less : (base : ℕ) (e : Extents) (at : ℕ) (x : Extent) (xs : List Extent) → HasNot at x
-    → owners_text base e at (x ∷ xs) ≡ owners_text base e at xs
-owners_less base e at x xs h =
-    owners_cons base e at x xs ∙ ap (λ (v : List ℕ). v ++ owners_text base e at xs) (no_line base e at x h)
-
-none_of : (base : ℕ) (e : Extents) (at : ℕ) → owners_text base e at [] ≡ []
-unfolding owners_text
-none_of base e at = refl
-
-owners_drop : (base : ℕ) (e : Extents) (at : ℕ) (xs : List Extent) (f : ℕ)
-    → ((k : ℕ) (d : Extent) → k < f → k < length xs → HasNot at (get_or xs k d))
-    → owners_text base e at xs ≡ owners_text base e at (drop f xs)
-owners_drop base e at xs zero h = refl
-owners_drop base e at [] (suc f) h = refl
-owners_drop base e at (x ∷ xs) (suc f) h =
-    owners_less base e at x xs (h 0 x (omega arith) (omega arith))
-    ∙ owners_drop base e at xs f (λ k d l m. h (suc k) d (omega (arith, l)) (omega (arith, m)))
-
-owners_none : (base : ℕ) (e : Extents) (at : ℕ) (xs : List Extent)
-    → ((k : ℕ) (d : Extent) → k < length xs → HasNot at (get_or xs k d)) → owners_text base e at xs ≡ []
-owners_none base e at [] h = none_of base e at
-owners_none base e at (x ∷ xs) h =
-    owners_less base e at x xs (h 0 x (omega arith))
-    ∙ owners_none base e at xs (λ k d m. h (suc k) d (omega (arith, m)))
-
-owners_take : (base : ℕ) (e : Extents) (at : ℕ) (xs : List Extent) (n : ℕ)
-    → ((k : ℕ) (d : Extent) → n ≤ k → k < length xs → HasNot at (get_or xs k d))
-    → owners_text base e at xs ≡ owners_text base e at (take n xs)
-owners_take base e at xs zero h = owners_none base e at xs (λ k d m. h k d (omega arith) m) ∙ sym (none_of base e at)
-owners_take base e at [] (suc n) h = refl
-owners_take base e at (x ∷ xs) (suc n) h =
-    owners_cons base e at x xs
-    ∙ (ap (λ (v : List ℕ). owner_line base e at x ++ v)
-    (owners_take base e at xs n (λ k d l m. h (suc k) d (omega (arith, l)) (omega (arith, m))))
-    ∙ sym (owners_cons base e at x (take n xs)))
-
-module _ (base : ℕ) (e : Extents) (at : ℕ) (xs : List Extent) (apart : AreApart xs) (n f : ℕ) (d : Extent)
-    (p : Parts xs (at + 1) (suc n)) (within : n < length xs)
-    (has : at < (get_or xs n d).start + (get_or xs n d).len) (q : Parts xs (get_or xs n d).start f) where
-  abbrev last : Extent
-  last = get_or xs n d
-
-  last_low : last.start ≤ at
-  last_low = let h = p.0 n d (omega arith) (omega arith) in omega (arith, h)
-
-  -- one that begins before the last of them has not the byte: it would have that one's first byte, too
-  earlier : (k : ℕ) (v : Extent) → k < f → k < length xs → HasNot at (get_or xs k v)
-  earlier k v l m low high =
-      let x : Extent = get_or xs k v in
-      let less : x.start < last.start = q.0 k v (omega arith) l in
-      let a = last_low in
-      let same = apart x last last.start (k, m, any_of xs k x v m) (n, within, any_of xs n last d within)
-      (omega (arith, less), omega (arith, a, high)) (omega arith, omega (arith, a, has)) in
-      let s = same.0 in
-      omega (arith, less, s)
-
-  later_ones : (k : ℕ) (v : Extent) → suc n ≤ k → k < length xs → HasNot at (get_or xs k v)
-  later_ones k v l m low high = let h = p.1 k v l m in omega (arith, h, low)
-
-  -- the last ones that begin before the byte, from the first that begins where the last of them does
-  pub among : f ≤ suc n → at_text base e at xs ≡ owners_text base e at (take (suc n - f) (drop f xs))
-  among le =
-      at_owner base e at xs n d p within has
-      ∙ (owners_drop base e at xs f earlier
-      ∙ owners_take base e at (drop f xs) (suc n - f) (λ k v l m.
-      let z : get_or (drop f xs) k v ≡ get_or xs (f + k) v = get_or-drop f xs k v in
-      let t : length (drop f xs) ≡ length xs - f = length-drop f xs in
-      subst (HasNot at) (sym z) (later_ones (f + k) v (omega (arith, l, le)) (omega (arith, m, t)))))
-
-  -- the first of them is not after the last
-  pub first_within : f ≤ suc n
-  first_within = elim (cases_lt f (suc n + 1)) [
-    | inl l ↦ omega (arith, l)
-    | inr l ↦ let h = q.0 n d (omega arith) (omega (arith, l)) in absurd (omega (arith, h))
-  ]
-
--- one line more
-pub owners_more : (base : ℕ) (e : Extents) (at : ℕ) (xs : List Extent) (i : ℕ) (d : Extent) → i < length xs
-    → owners_text base e at (take (i + 1) xs)
-    ≡ owners_text base e at (take i xs) ++ owner_line base e at (get_or xs i d)
-unfolding owners_text
-owners_more base e at xs i d h =
-    let f : Extent → List ℕ = λ x. owner_line base e at x in
-    ap (flat_map f) (take_more xs i d h) ∙ flat_map-append f (take i xs) (get_or xs i d ∷ [])
-    ∙ ap (λ (v : List ℕ). flat_map f (take i xs) ++ v) (append-nil (f (get_or xs i d)))
-
-pub owners_end : (base : ℕ) (e : Extents) (at : ℕ) (xs : List Extent) (i : ℕ) → length xs ≤ i
-    → owners_text base e at (take i xs) ≡ owners_text base e at xs
-owners_end base e at xs i h = ap (owners_text base e at) (take_all i xs h)
 
 -- the halves of a search
 pub before_middle : (xs : List Extent) (limit middle : ℕ) (d : Extent) → IsNonDecreasingBy start_of xs
@@ -234,19 +170,6 @@ from_middle xs limit middle d up m h k v l w =
     let s = up middle k d l w in
     let e : (get_or xs k d).start ≡ (get_or xs k v).start = ap start_of (any_of xs k d v w) in
     omega (arith, s, e, h)
-
--- the line of one extent
-pub owner_is : (base : ℕ) (e : Extents) (at : ℕ) (x : Extent) → covers at x ≡ true
-    → extent_text base e x ++ (byte_text at x ++ 10 ∷ []) ≡ owner_line base e at x
-unfolding owner_line
-owner_is base e at x h = rw h refl
-
-pub owner_no : (base : ℕ) (e : Extents) (at : ℕ) (x : Extent) → covers at x ≡ false → [] ≡ owner_line base e at x
-unfolding owner_line
-owner_no base e at x h = rw h refl
-
-pub owners_first : (base : ℕ) (e : Extents) (at : ℕ) → [] ≡ owners_text base e at []
-owners_first base e at = sym (none_of base e at)
 
 -- an address inside, and one outside
 pub which_in : (base file : ℕ) (e : Extents) (address : ℕ) → is_inside base file e address ≡ true

@@ -1,7 +1,7 @@
 -- Data of a romfs image are bytes of the file whose path their record has.
 use Rattle.std.proofs.Common.{◌≡◌, ◌≢◌, ◌≤◌, ◌⊎◌, ℕ, ◌+◌, ◌==◌, Bool, true, false, List, [], ◌∷◌, ◌++◌}
 use Rattle.std.proofs.Common.{length, take, drop, min, refl, sym, ap, subst, ◌∙◌, arith, inl, inr, append-nil, get_or}
-use Rattle.std.proofs.Common.{if◌then◌else◌, eq-eqb, Some}
+use Rattle.std.proofs.Common.{if◌then◌else◌, eq-eqb, map, Some}
 use Rattle.std.proofs.lemmas.Bool.{true≢false, ne_eqb, eqb-true, false_from_ne_true}
 use Rattle.std.proofs.lemmas.Bool.Decides.{eqb_tells}
 use Rattle.std.proofs.lemmas.List.Elements.{All-from_recursion, recursion_from_All}
@@ -18,8 +18,9 @@ use Rattle.record_forest.proofs.Lists.{pairs_from, pairs_left}
 use Rattle.record_forest.proofs.Lists.{pairs_right}
 use Rattle.rom_tree.proofs.ByKind.{by_kind_directory, body_places_is}
 use Rattle.rom_tree.specs.Dots.{is_dots}
+use Rattle.rom_tree.specs.Image.{IsRun}
 use Rattle.rom_tree.specs.Names.{Name, named, names, node_names, entries_names}
-use Rattle.rom_tree.specs.Tree.{node, Body, directory, regular, symlink, block, character, socket, fifo, Entries}
+use Rattle.rom_tree.specs.Tree.{Node, node, Body, directory, regular, symlink, block, character, socket, fifo, Entries}
 use Rattle.rom_tree.specs.Tree.{depth, entries_depth, places_of}
 use Rattle.romfs_format.specs.Made.{StandsAt, grow, start_of}
 use Rattle.romfs_format.specs.Record.{before_zero, first_of, has_data, name_of, next_of, type_of}
@@ -35,18 +36,22 @@ use Rattle.romfs_format.proofs.Trees.{led_self}
 use Rattle.image_info.specs.Gaps.{most_records, romfs_forest}
 use Rattle.image_info.specs.Held.{HoldsRomfs}
 use Rattle.image_info.proofs.Forests.{romfs_is}
+use Rattle.image_extents.specs.declared.extent.Extent.{Extent}
 use Rattle.image_extents.specs.declared.extent.Record.{Record}
 use Rattle.image_extents.specs.declared.extent.Extents.{Extents}
 use Rattle.image_extents.specs.declared.extent.Kind.TheVariants.{Super}
 use Rattle.image_extents.specs.Found.{found, found_from, romfs_found, romfs_all_found}
 use Rattle.image_extents.specs.Listed.{listed, romfs_entry, romfs_listed, root_entry}
-use Rattle.image_extents.specs.Owned.{AreOfFiles}
+use Rattle.image_extents.specs.Lines.{owned, owners}
+use Rattle.image_extents.specs.Owned.{AreOfFiles, HasBytes, run_of}
 use Rattle.image_extents.specs.Sorted.{AreRomfs}
+use Rattle.image_extents.specs.Tables.{no_next}
 use Rattle.image_extents.proofs.Bytes.{has_bytes}
-use Rattle.image_extents.proofs.DataRuns.{OfRomfs, found_of, other_found}
+use Rattle.image_extents.proofs.DataRuns.{OfRomfs, found_of, other_found, places_in}
 use Rattle.image_extents.proofs.Inside.{above_root, of_forest, of_rows}
 use Rattle.image_extents.proofs.Named.{Format, AreOpen, Each, IsOpen, are_named}
 use Rattle.image_extents.proofs.RomfsWalk.{whole}
+use Rattle.image_extents.proofs.Sharing.{led_alone}
 use Rattle.image_extents.proofs.Texts.{path_root}
 
 -- ---- names
@@ -169,17 +174,26 @@ module _ (b : List ℕ) (r : ℕ) (list : Forest) (e : Extents) where
       (found_of records b 0 [] records refl refl))
 
   of_files : romfs_listed b r ≡ records → e.bytes.now ≡ b → e.records.items ≡ romfs_listed b r
+      → e.next.items ≡ map no_next (romfs_listed b r)
       → IsPermutation (romfs_all_found b r) e.extents.items → type_of b r ≡ 1 → StandsAt b (start_of b r) list
       → Everywhere (IsDotLink b) list → entries_depth (entries_at b list) ≤ 64
       → AreOfFiles (node_of b r (entries_at b list)) e
-  of_files is bytes items moved t s dots deep =
+  of_files is bytes items next moved t s dots deep =
       let all : All (OfRomfs records b) e.extents.items =
       All-permutation (OfRomfs records b) (romfs_all_found b r) e.extents.items moved
       (All-from_recursion (OfRomfs records b) (romfs_all_found b r) (each_of is)) in
-      λ k d l kind. has_bytes (format b) (root_entry r) (listed (romfs_entry b) 1 0 list)
+      let tree : Node = node_of b r (entries_at b list) in
+      λ k d l kind.
+      let x : Extent = get_or e.extents.items k d in
+      let P : ℕ → List ℕ = places_in records (λ p. has_data (type_of b p)) (places_at b) in
+      let Held : ℕ → Type 0 = λ i. HasBytes tree e (owned x i) in
+      All-from_recursion Held (owners e x) (every_weaker (λ i. i ≡ x.owner) Held (λ i same.
+      has_bytes (format b) (root_entry r) (listed (romfs_entry b) 1 0 list)
       (λ p. has_data (type_of b p)) (places_at b) (places_are b) (all_shown dots) (ap has_data t)
-      (entries_names [] (entries_at b list)) (named_below s dots deep) (node_of b r (entries_at b list)) _ e
-      (get_or e.extents.items k d) (root_names b r list t) bytes (items ∙ is) (all k d l kind)
+      (entries_names [] (entries_at b list)) (named_below s dots deep) tree _ e
+      (owned x i) (root_names b r list t) bytes (items ∙ is)
+      (subst (λ (v : ℕ). IsRun (P v) x.offset (run_of x)) (sym same) (all k d l kind)))
+      (owners e x) (led_alone (romfs_listed b r) e.next.items next (length e.records.items) x.owner))
 
 -- ---- `.` and `..`
 
@@ -326,4 +340,4 @@ romfs_bytes all r e h a =
     let deep : entries_depth (entries_at b list) ≤ 64 = grind (arith, shallow, same_depth) in
     subst (λ (f : Forest). AreOfFiles (tree_of b r f) e) same
     (subst (λ (f : Forest). AreOfFiles (node_of b r (entries_at b f)) e) (sym k.below)
-    (of_files b r list e (whole b r) a.bytes a.records a.extents.same kind k.stands k.dots deep))
+    (of_files b r list e (whole b r) a.bytes a.records a.next a.extents.same kind k.stands k.dots deep))

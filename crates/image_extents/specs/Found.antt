@@ -1,13 +1,15 @@
 -- The extents of the records of an image. (This project's own.)
-use Rattle.std.specs.Prelude.{ℕ, zero, suc, ◌+◌, ◌-◌, ◌*◌, ◌^◌, ◌==◌, nat_lt, min, if◌then◌else◌}
-use Rattle.std.specs.Prelude.{Bool, true, false, List, [], ◌∷◌, ◌++◌}
+use Rattle.std.specs.Prelude.{ℕ, zero, suc, ◌+◌, ◌-◌, ◌*◌, ◌^◌, ◌≤◌, ◌==◌, nat_lt, min, length}
+use Rattle.std.specs.Prelude.{if◌then◌else◌}
+use Rattle.std.specs.Prelude.{Bool, true, false, List, [], ◌∷◌, ◌++◌, Option, None, Some}
 use Rattle.romfs_format.specs.Record.{end_of, size_of, type_of, has_data}
 use Rattle.cramfs_format.specs.declared.order.Order.{Order}
 use Rattle.cramfs_format.specs.Order.{word}
-use Rattle.cramfs_format.specs.Inode.{offset_of, block_count, block_start}
+use Rattle.cramfs_format.specs.Inode.{offset_of, block_count, block_start, TableLies}
 use Rattle.cramfs_format.specs.Inode.{size_of as cramfs_size_of}
 use Rattle.cramfs_format.specs.Inode.{type_of as cramfs_type_of, has_data as has_blocks}
 use Rattle.image_extents.specs.Listed.{romfs_listed, cramfs_listed}
+use Rattle.image_extents.specs.Tables.{nexts, is_first}
 use Rattle.image_extents.specs.declared.extent.Record.{Record}
 use Rattle.image_extents.specs.declared.extent.Extent.{Extent}
 use Rattle.image_extents.specs.declared.extent.Kind.{Kind}
@@ -92,12 +94,40 @@ with_contents j o b p i xs =
     (xs ++ found Table (offset_of o b p) (4 * block_count (cramfs_size_of o b p)) 0 i)
     (block_count (cramfs_size_of o b p)) (offset_of o b p) (cramfs_size_of o b p) 0 else xs
 
--- the extents of some records more, of which the first has the number n
-abbrev pub with_records : Bool → Order → List ℕ → List Extent → ℕ → List Record → List Extent
-with_records j o b xs n [] = xs
-with_records j o b xs n (x ∷ rs) =
-    with_records j o b (with_contents j o b x.offset n (with_list o b x.offset n xs)) (suc n) rs
+-- the record at p has its inode, and its block pointers, if it has some, among the bytes
+abbrev pub IsWithin : Order → List ℕ → ℕ → Type 0
+IsWithin o b p = (p + 12 ≤ length b) × TableLies o b p
 
--- the superblock, and the extents of all records in the order of a list, blocks joined or not
+-- The block pointers of the record at p: their offset, and the number of bytes of the contents.
+-- Other records than files and links have none.
+abbrev pub table_of : Order → List ℕ → ℕ → Option (ℕ × ℕ)
+table_of o b p =
+    if has_blocks (cramfs_type_of o b p) then Some (offset_of o b p, cramfs_size_of o b p) else None
+
+abbrev pub table_in : Order → List ℕ → Record → Option (ℕ × ℕ)
+table_in o b x = table_of o b x.offset
+
+-- The extents of the n-th record more, if it is the first one of `all` with its block pointers, or
+-- has none.
+abbrev pub with_record : Bool → Order → List ℕ → List Record → List Extent → ℕ → Record
+    → List Extent
+with_record j o b all xs n x =
+    if is_first (table_in o b) all n x
+    then with_contents j o b x.offset n (with_list o b x.offset n xs) else xs
+
+-- those of some records of `all`, of which the first has the number n
+abbrev pub with_records : Bool → Order → List ℕ → List Record → List Extent → ℕ → List Record
+    → List Extent
+with_records j o b all xs n [] = xs
+with_records j o b all xs n (x ∷ rs) =
+    with_records j o b all (with_record j o b all xs n x) (suc n) rs
+
+-- The superblock, and the extents of the records in the order of a list, blocks joined or not. Of
+-- records with the same block pointers, the first has them.
 unfoldable pub cramfs_all_found : Bool → Order → List ℕ → List Extent
-cramfs_all_found j o b = with_records j o b (found Super 0 76 0 0) 0 (cramfs_listed o b)
+cramfs_all_found j o b =
+    with_records j o b (cramfs_listed o b) (found Super 0 76 0 0) 0 (cramfs_listed o b)
+
+-- for each record, the next one with its block pointers
+unfoldable pub cramfs_nexts : Order → List ℕ → List (Option ℕ)
+cramfs_nexts o b = nexts (table_in o b) 0 (cramfs_listed o b)

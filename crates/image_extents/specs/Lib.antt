@@ -1,4 +1,5 @@
 pub mod Listed
+pub mod Tables
 pub mod Found
 pub mod Lines
 pub mod Sorted

@@ -1,5 +1,5 @@
 -- What the collected extents of an image are. (This project's own.)
-use Rattle.std.specs.Prelude.{◌≡◌, ℕ, Bool, List, IsPermutation}
+use Rattle.std.specs.Prelude.{◌≡◌, ℕ, Bool, List, IsPermutation, map}
 use Rattle.std.specs.List.Sorted.{IsNonDecreasingBy, IsStableByKey}
 use Rattle.std.specs.Ordering.{nat_cmp}
 use Rattle.romfs_format.specs.Superblock.{accessible as romfs_accessible}
@@ -14,7 +14,8 @@ use Rattle.image_extents.specs.declared.extent.Extent.{Extent}
 use Rattle.image_extents.specs.declared.extent.Extents.{Extents}
 use Rattle.image_extents.specs.Apart.{AreApart}
 use Rattle.image_extents.specs.Listed.{romfs_listed, cramfs_listed}
-use Rattle.image_extents.specs.Found.{romfs_all_found, cramfs_all_found}
+use Rattle.image_extents.specs.Found.{romfs_all_found, cramfs_all_found, cramfs_nexts}
+use Rattle.image_extents.specs.Tables.{no_next}
 
 abbrev pub start_of : Extent → ℕ
 start_of x = x.start
@@ -25,11 +26,12 @@ pub record IsInOrder (xs ys : List Extent) : Type 0 where
   pub sorted : IsNonDecreasingBy start_of ys
   pub stable : IsStableByKey start_of nat_cmp xs ys
 
--- the records and the extents of the romfs image with the accessible bytes b and the root at r; if
--- two extents have a byte in common, they have the same range
+-- the records and the extents of the romfs image with the accessible bytes b and the root at r, of
+-- which none share bytes; if two extents have a byte in common, they have the same range
 pub record AreRomfs (b : List ℕ) (r : ℕ) (e : Extents) : Type 0 where
   pub bytes : e.bytes.now ≡ b
   pub records : e.records.items ≡ romfs_listed b r
+  pub next : e.next.items ≡ map no_next (romfs_listed b r)
   pub extents : IsInOrder (romfs_all_found b r) e.extents.items
   pub apart : AreApart e.extents.items
 
@@ -38,6 +40,7 @@ pub record AreRomfs (b : List ℕ) (r : ℕ) (e : Extents) : Type 0 where
 pub record AreBlocks (joined : Bool) (o : Order) (b : List ℕ) (e : Extents) : Type 0 where
   pub bytes : e.bytes.now ≡ b
   pub records : e.records.items ≡ cramfs_listed o b
+  pub next : e.next.items ≡ cramfs_nexts o b
   pub extents : IsInOrder (cramfs_all_found joined o b) e.extents.items
 
 -- the same, and if two extents have a byte in common, they have the same range

@@ -1,29 +1,10 @@
 -- What is at an address. (This project's own.)
-use Rattle.std.specs.Prelude.{ℕ, ◌+◌, ◌-◌, ◌%◌, ◌^◌, Bool, ◌&&◌, if◌then◌else◌, max, nat_le}
-use Rattle.std.specs.Prelude.{nat_lt, List, [], ◌∷◌, ◌++◌, length, codes, decimal}
+use Rattle.std.specs.Prelude.{ℕ, ◌+◌, ◌-◌, ◌%◌, ◌^◌, Bool, if◌then◌else◌, max, nat_le}
+use Rattle.std.specs.Prelude.{nat_lt, List, [], ◌∷◌, length, codes}
 use Rattle.std.specs.Prelude.{Option, Some, None}
-use Rattle.std.specs.List.{flat_map}
 use Rattle.image_extents.specs.declared.extent.Extent.{Extent}
 use Rattle.image_extents.specs.declared.extent.Extents.{Extents}
-use Rattle.image_extents.specs.Found.{is_data}
-use Rattle.image_extents.specs.Lines.{between, beyond, extent_text}
-
--- whether the byte at an offset is in an extent
-abbrev pub covers : ℕ → Extent → Bool
-covers at x = nat_le x.start at && nat_lt at (x.start + x.len)
-
--- of data: a space, and which byte of the contents it is
-abbrev pub byte_text : ℕ → Extent → List ℕ
-byte_text at x = if is_data x.kind then 32 ∷ [] ++ decimal (x.offset + (at - x.start)) else []
-
--- the line of an extent that has the byte, and nothing for another one
-unfoldable pub owner_line : ℕ → Extents → ℕ → Extent → List ℕ
-owner_line base e at x =
-    if covers at x then extent_text base e x ++ (byte_text at x ++ 10 ∷ []) else []
-
--- the lines of all extents that have the byte
-unfoldable pub owners_text : ℕ → Extents → ℕ → List Extent → List ℕ
-owners_text base e at xs = flat_map (λ x. owner_line base e at x) xs
+use Rattle.image_extents.specs.Lines.{between, beyond, run_text, starting}
 
 -- the last extent that begins at an offset or before it
 abbrev pub later : Option Extent → Extent → Option Extent
@@ -41,13 +22,13 @@ next_start at size [] = size
 next_start at size (x ∷ xs) = if nat_lt at x.start then x.start else next_start at size xs
 
 -- What is at an offset of the accessible bytes, if this is the last extent that begins there or
--- before it: the lines of all extents that have the byte, if this one has it; and otherwise the
--- range from its end up to the next extent.
+-- before it: the lines of all extents that begin with this one, if it has the byte; and otherwise
+-- the range from its end up to the next extent.
 abbrev pub lines_after : ℕ → Extents → ℕ → List Extent → Option Extent → List ℕ
 lines_after base e at xs None =
     between base e.bytes.now 0 (next_start at (length e.bytes.now) xs)
 lines_after base e at xs (Some x) =
-    if nat_lt at (x.start + x.len) then owners_text base e at xs else
+    if nat_lt at (x.start + x.len) then run_text base e (Some at) (starting x.start xs) else
     between base e.bytes.now (x.start + x.len) (next_start at (length e.bytes.now) xs)
 
 unfoldable pub at_text : ℕ → Extents → ℕ → List Extent → List ℕ

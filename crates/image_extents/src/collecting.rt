@@ -11,6 +11,7 @@ use crate::cramfs_records::add_cramfs;
 use crate::extent::{Extent, Extents};
 use crate::order::are_apart;
 use crate::romfs_records::add_romfs;
+use crate::tables::none_next;
 use cramfs_format::Order;
 use cramfs_format::superblock::accessible_size;
 use image_check::AnyImage;
@@ -37,9 +38,11 @@ fn romfs_extents<'a>(alloc: Global, all: &'a [u8], root: u32) -> Result<Extents<
     let mut extents = Vec::new(alloc);
     add_romfs(alloc, &mut records, &mut extents, bytes, root)?;
     sort(&mut extents)?;
+    let next = none_next(alloc, &records)?;
     Ok(Extents {
         bytes,
         records,
+        next,
         extents,
     })
 }
@@ -56,11 +59,12 @@ fn cramfs_extents<'a>(
 {
     let mut records = Vec::new(alloc);
     let mut extents = Vec::new(alloc);
-    add_cramfs(alloc, &mut records, &mut extents, order, bytes, joined)?;
+    let next = add_cramfs(alloc, &mut records, &mut extents, order, bytes, joined)?;
     sort(&mut extents)?;
     Ok(Extents {
         bytes,
         records,
+        next,
         extents,
     })
 }
@@ -84,8 +88,9 @@ fn joined_extents<'a>(
     Ok(single)
 }
 
-/// Collects the records of a checked image with their extents. For n records and extents, the time
-/// is n log n, and the memory about 100 bytes for each.
+/// Collects the records of a checked image with their extents. Those of records with the same block
+/// pointers are collected once. For n bytes of the image, the time is n log n, and the memory grows
+/// with n.
 ///
 /// # Errors
 ///

@@ -1,14 +1,21 @@
 //! The records of a cramfs image with their extents.
 ghost use Rattle.std.specs.Prelude.{◌≡◌, ◌+◌, ◌*◌, ◌<◌, ◌≤◌, ◌^◌, [], ℕ, length, OnOk, false};
-ghost use Rattle.std.specs.Prelude.{if◌then◌else◌};
+ghost use Rattle.std.specs.Prelude.{if◌then◌else◌, IfOk};
+ghost use Rattle.std.specs.BTreeMap.{get};
+ghost use Rattle.std.specs.List.{All};
 ghost use Rattle.cramfs_format.specs.Inode.{block_count, end_of, name_of, without_zeros, TableLies};
 ghost use Rattle.cramfs_format.specs.Made.{IsCramfs};
 ghost use Rattle.image_extents.specs.Listed.{cramfs_entry, cramfs_listed};
 ghost use Rattle.image_extents.specs.Found.{cramfs_all_found, goes_on, is_data, with_block};
-ghost use Rattle.image_extents.specs.Found.{with_blocks, with_contents, with_list};
+ghost use Rattle.image_extents.specs.Found.{cramfs_nexts, table_in, with_blocks, with_contents};
+ghost use Rattle.image_extents.specs.Found.{IsWithin};
+ghost use Rattle.image_extents.specs.Found.{with_list, with_records};
+ghost use Rattle.image_extents.specs.Tables.{first_with, pair_cmp};
+ghost use Rattle.image_extents.specs.declared.extent.Record.{Record};
 
 use crate::extent::{Extent, Kind, Record, end};
 use crate::order::add;
+use crate::tables::{First, is_first, tables};
 use cramfs_format::inode::{
     blocks_of, list_end_at, offset_at, room_at, size_at, start_of, type_at,
 };
@@ -175,9 +182,73 @@ fn add_record(
     Ok(())
 }
 
+/// Adds the records of a cramfs image in the order of a list.
+fn list_records(
+    alloc: Global,
+    records: &mut Vec<Record>,
+    order: Order,
+    b: &[u8],
+) -> Result<(), OutOfMemory>
+    requires cramfs { (k : ℕ) × (k ≤ 2 ^ 32) × IsCramfs order b.now k }
+    requires none { records.old.items ≡ [] }
+    ensures records { OnOk result (records.new.items ≡ cramfs_listed order b.now) }
+    ensures within { OnOk result (All (λ (x : Record). IsWithin order b.now x.offset)
+        records.new.items) }
+{
+    records.push(Record {
+        offset: 64,
+        name: 64,
+        length: 0,
+        directory: 0,
+    })?;
+    let mut lists = Vec::new(alloc);
+    lists.push((offset_at(order, b, 64), list_end_at(order, b, 64), 0))?;
+    while let Some(list) = lists.pop() {
+        let at = list.0;
+        if at >= list.1 {
+            continue;
+        }
+        let number = records.len();
+        records.push(entry_at(order, b, at, list.2))?;
+        lists.push((end_at(order, b, at), list.1, list.2))?;
+        lists.push((
+            offset_at(order, b, at as usize),
+            list_end_at(order, b, at as usize),
+            number,
+        ))?;
+    }
+    Ok(())
+}
+
+/// Adds the extents of those records that are the first ones with their block pointers, or have
+/// none.
+fn add_extents(
+    extents: &mut Vec<Extent>,
+    first: &First,
+    order: Order,
+    b: &[u8],
+    records: &[Record],
+    joined: bool,
+) -> Result<(), OutOfMemory>
+    requires within { All (λ (x : Record). IsWithin order b.now x.offset) records.now }
+    requires first { (t : ℕ × ℕ)
+        → get pair_cmp first.now t ≡ first_with (table_in order b.now) t 0 records.now }
+    ensures { OnOk result (extents.new.items
+        ≡ with_records joined order b.now records.now extents.old.items 0 records.now) }
+{
+    for number in 0..records.len() {
+        if !is_first(first, order, b, records, number) {
+            continue;
+        }
+        add_record(extents, order, b, records[number].offset, number, joined)?;
+    }
+    Ok(())
+}
+
 /// Adds the records of a cramfs image in the order of a list, and their extents in the same order.
-/// `b` has its accessible bytes. If blocks are joined, blocks of a file that follow one another are
-/// one extent.
+/// Of records with the same block pointers, only the first has extents. `b` has its accessible
+/// bytes. If blocks are joined, blocks of a file that follow one another are one extent. Returns
+/// which record is the next one with the block pointers of each.
 ///
 /// # Errors
 ///
@@ -189,36 +260,16 @@ pub(crate) fn add_cramfs(
     order: Order,
     b: &[u8],
     joined: bool,
-) -> Result<(), OutOfMemory>
+) -> Result<Vec<Option<usize>>, OutOfMemory>
     requires cramfs { (k : ℕ) × (k ≤ 2 ^ 32) × IsCramfs order b.now k }
     requires none { (records.old.items ≡ []) × (extents.old.items ≡ []) }
     ensures records { OnOk result (records.new.items ≡ cramfs_listed order b.now) }
+    ensures next { IfOk result (λ next. next.items ≡ cramfs_nexts order b.now) }
     ensures extents { OnOk result (extents.new.items ≡ cramfs_all_found joined order b.now) }
 {
-    records.push(Record {
-        offset: 64,
-        name: 64,
-        length: 0,
-        directory: 0,
-    })?;
+    list_records(alloc, records, order, b)?;
+    let (next, first) = tables(alloc, order, b, records)?;
     add(extents, Kind::Super, 0, 76, 0)?;
-    add_record(extents, order, b, 64, 0, joined)?;
-    let mut lists = Vec::new(alloc);
-    lists.push((offset_at(order, b, 64), list_end_at(order, b, 64), 0))?;
-    while let Some(list) = lists.pop() {
-        let at = list.0;
-        if at >= list.1 {
-            continue;
-        }
-        let number = records.len();
-        records.push(entry_at(order, b, at, list.2))?;
-        add_record(extents, order, b, at, number, joined)?;
-        lists.push((end_at(order, b, at), list.1, list.2))?;
-        lists.push((
-            offset_at(order, b, at as usize),
-            list_end_at(order, b, at as usize),
-            number,
-        ))?;
-    }
-    Ok(())
+    add_extents(extents, &first, order, b, records, joined)?;
+    Ok(next)
 }

@@ -45,12 +45,15 @@ pub struct Extent {
 }
 
 /// The records of an image in the order of a list, and their extents in the order of offset.
-/// Extents of one offset are in the order of their records.
+/// Extents of one offset are in the order of their records. Of records with the same block
+/// pointers, only the first has extents here: the others have the same bytes.
 #[derive(Drop)]
 pub struct Extents<'a> {
     /// The accessible bytes.
     pub bytes: &'a [u8],
     pub records: Vec<Record>,
+    /// For each record the number of the next one with its block pointers, if there is one.
+    pub next: Vec<Option<usize>>,
     pub extents: Vec<Extent>,
 }
 

@@ -1,10 +1,12 @@
 //! Laws of the lines of extents, as functions without code.
 ghost use Rattle.std.specs.Prelude.{ℕ, List, length, max};
+ghost use Rattle.std.specs.List.{All};
 ghost use Rattle.cramfs_format.specs.Superblock.{accessible as cramfs_accessible};
 ghost use Rattle.cramfs_format.specs.Tree.{tree_of as cramfs_tree_of};
 ghost use Rattle.cramfs_format.specs.declared.order.Order.{Order};
 ghost use Rattle.image_extents.specs.Lines.{extents_text};
-ghost use Rattle.image_extents.specs.Owned.{AreOfFiles};
+ghost use Rattle.image_extents.specs.Found.{table_in};
+ghost use Rattle.image_extents.specs.Owned.{AreOfFiles, HasOwners};
 ghost use Rattle.image_extents.specs.Ranges.{ShareOut};
 ghost use Rattle.image_extents.specs.Sorted.{AreCramfs, AreRomfs};
 ghost use Rattle.image_extents.specs.declared.extent.Extents.{Extents};
@@ -34,4 +36,12 @@ pub fn data_are_of_files()
     ensures cramfs { (o : Order) (all : List ℕ) (e : Extents) (h : HoldsCramfs o all)
         → AreCramfs o (cramfs_accessible o all) e
         → AreOfFiles (cramfs_tree_of o (cramfs_accessible o all) h.forest) e }
+{}
+
+/// States which records have the bytes of an extent in a checked cramfs image: if the extent's
+/// record has block pointers, exactly the records that have these.
+pub fn owners_share()
+    ensures { (o : Order) (all : List ℕ) (e : Extents) → HoldsCramfs o all
+        → AreCramfs o (cramfs_accessible o all) e
+        → All (HasOwners (table_in o (cramfs_accessible o all)) e) e.extents.items }
 {}

@@ -2,10 +2,12 @@
 //!
 //! `specs/Listed.antt` says in which order the records of an image are listed, and which paths they
 //! have. `specs/Lines.antt` says what the lines of extents are: one line for each name of an
-//! extent, and one for each range between extents.
+//! extent, and one for each range between extents. The extents of files that share block pointers
+//! (`specs/Tables.antt`) are kept once, so that memory grows with the image's bytes.
 //!
 //! Proved: the lines of a checked image share out the bytes of its file, and data are the bytes of
-//! the file whose path their lines have (`laws`).
+//! the file whose path their lines have. The records that have the bytes of an extent are exactly
+//! those with its block pointers (`laws`).
 #![tactic(auto)]
 
 mod collecting;
@@ -16,6 +18,8 @@ mod lines;
 mod order;
 mod path;
 mod romfs_records;
+mod search;
+mod tables;
 mod which;
 
 pub use collecting::extents;

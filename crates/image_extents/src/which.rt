@@ -1,106 +1,17 @@
 //! What is at an address.
 ghost use Rattle.std.specs.Prelude.{◌≡◌, ◌<◌, ◌≤◌, ◌^◌, length, max, nat_lt, slice_index_or, IfOk};
-ghost use Rattle.std.specs.List.Sorted.{IsNonDecreasingBy, IsPartitionPoint};
+ghost use Rattle.std.specs.List.Sorted.{IsNonDecreasingBy};
 ghost use Rattle.rom_fields.specs.Failures.{Counts};
 ghost use Rattle.rom_fields.specs.Written.{Puts, WritesText, sink};
 ghost use Rattle.image_extents.specs.Apart.{AreApart};
-ghost use Rattle.image_extents.specs.Found.{is_data};
 ghost use Rattle.image_extents.specs.Sorted.{start_of};
-ghost use Rattle.image_extents.specs.Which.{at_text, byte_text, covers, inside_text, is_inside};
-ghost use Rattle.image_extents.specs.Which.{owner_line, owners_text, which_text};
+ghost use Rattle.image_extents.specs.Which.{at_text, inside_text, is_inside, which_text};
 ghost use Rattle.image_extents.specs.declared.extent.Extent.{Extent};
 
-use crate::extent::{Extent, Extents, Kind, end};
-use crate::lines::{put_between, put_beyond, put_extent};
-use rom_fields::{ByteWrite, Failed, put, put_long_decimal};
-
-/// Whether an extent has bytes of contents.
-fn is_contents(kind: Kind) -> bool
-    ensures { result ≡ is_data kind }
-{
-    match kind {
-        Kind::Data => true,
-        Kind::Super | Kind::Header | Kind::List | Kind::Table => false,
-    }
-}
-
-/// Whether an extent has the byte at `at`.
-fn covers(x: Extent, at: u64) -> bool
-    ensures { result ≡ covers at x }
-{
-    u64::from(x.start) <= at && at < end(x)
-}
-
-/// Puts which byte of the contents an extent has at `at`, if it is data.
-fn put_byte<W: ByteWrite>(w: &mut W, failed: &mut bool, x: Extent, at: u64)
-    requires covered { x.start ≤ at }
-    requires small { at < 2 ^ 63 }
-    ensures { Puts (sink (W.output w.old) failed.old) (sink (W.output w.new) failed.new)
-        (byte_text at x) }
-{
-    if is_contents(x.kind) {
-        put(w, failed, b" ");
-        put_long_decimal(w, failed, u64::from(x.offset) + (at - u64::from(x.start)));
-    }
-}
-
-/// Puts the line of an extent if it has the byte at `at`.
-fn put_one<W: ByteWrite>(
-    w: &mut W,
-    failed: &mut bool,
-    base: u64,
-    found: &Extents<'_>,
-    x: Extent,
-    at: u64,
-)
-    requires { at < 2 ^ 63 }
-    ensures { Puts (sink (W.output w.old) failed.old) (sink (W.output w.new) failed.new)
-        (owner_line base found.now at x) }
-{
-    if covers(x, at) {
-        put_extent(w, failed, base, found, x);
-        put_byte(w, failed, x, at);
-        put(w, failed, b"\n");
-    }
-}
-
-/// Puts the lines of the extents that have the byte at `at`.
-fn put_owners<W: ByteWrite>(
-    w: &mut W,
-    failed: &mut bool,
-    base: u64,
-    found: &Extents<'_>,
-    owners: &[Extent],
-    at: u64,
-)
-    requires { at < 2 ^ 63 }
-    ensures { Puts (sink (W.output w.old) failed.old) (sink (W.output w.new) failed.new)
-        (owners_text base found.now at owners.now) }
-{
-    for x in owners {
-        put_one(w, failed, base, found, *x, at);
-    }
-}
-
-/// The number of extents that begin before the offset `limit`, found by halving.
-fn begun(extents: &[Extent], limit: u64) -> usize
-    requires { IsNonDecreasingBy start_of extents.now }
-    ensures within { result ≤ length extents.now }
-    ensures parts { IsPartitionPoint (λ x. x.start < limit) (λ x. limit ≤ x.start) extents.now
-        result }
-{
-    let mut low = 0;
-    let mut high = extents.len();
-    while low < high {
-        let middle = low + (high - low) / 2;
-        if u64::from(extents[middle].start) < limit {
-            low = middle + 1;
-        } else {
-            high = middle;
-        }
-    }
-    low
-}
+use crate::extent::{Extent, Extents, end};
+use crate::lines::{put_between, put_beyond, put_run};
+use crate::search::{begun, run_at};
+use rom_fields::{ByteWrite, Failed, put};
 
 /// Where the extent of this number begins, or `size` if there is none.
 fn start_at(extents: &[Extent], number: usize, size: u64) -> u64
@@ -139,8 +50,14 @@ fn put_among<W: ByteWrite>(
     if end(last) <= at {
         return put_between(w, failed, base, found.bytes, end(last), to);
     }
-    let first = begun(extents, u64::from(last.start));
-    put_owners(w, failed, base, found, &extents[first..next], at);
+    put_run(
+        w,
+        failed,
+        base,
+        found,
+        run_at(extents, last.start),
+        Some(at),
+    );
 }
 
 /// Puts what is at the offset `at` of a file of so many bytes, if it has a byte there.

@@ -563,6 +563,7 @@ fn build_from<'a>(
     let files = Files {
         origin,
         manifest,
+        directory: asked.sources,
         names,
         stamps: &stamps,
         kept,

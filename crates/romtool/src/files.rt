@@ -1,4 +1,8 @@
 //! The files that an image is made of, and what is reported if they change or cannot be read.
+ghost use Rattle.std.specs.Prelude.{◌≡◌, map, option_map};
+ghost use Rattle.manifest.specs.Lines.{sources_of};
+ghost use Rattle.romtool.specs.Sources.{opened_as};
+
 use crate::origin::Origin;
 use crate::reading::{self, TextFile};
 use crate::reporter::Reporter;
@@ -61,13 +65,18 @@ pub fn kept_states(
 }
 
 /// The sources of an image: their names, and the states that they and the manifest have to keep.
+/// The names are those of the manifest's sources in its order, each as it is opened.
 #[derive(Clone, Copy)]
 pub struct Files<'a> {
     pub origin: Origin<'a>,
     pub manifest: TextFile,
+    /// The directory in which the sources are, if one is given.
+    pub directory: Option<&'a str>,
     pub names: &'a [&'a str],
     pub stamps: &'a [Stamp],
     pub kept: Kept<'a>,
+    ghost named: { map (λ n. n.now) names.now ≡ opened_as (option_map (λ d. d.now) directory)
+        (sources_of origin.manifest.now.lines) },
 }
 
 impl<'a> Files<'a> {

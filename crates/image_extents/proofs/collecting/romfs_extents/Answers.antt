@@ -1,8 +1,10 @@
-use Rattle.std.proofs.Common.{◌≢◌, ◌∙◌, ℕ, List, take, ap, subst, arith}
+use Rattle.std.proofs.Common.{◌≢◌, ◌∙◌, ℕ, List, take, ap, subst, arith, map}
 use Rattle.romfs_format.specs.Superblock.{accessible}
 use Rattle.romfs_image.proofs.Reading.{root_above}
 use Rattle.image_info.proofs.Given.{romfs_known}
 use Rattle.image_extents.specs.declared.extent.Extent.{Extent}
+use Rattle.image_extents.specs.declared.extent.Record.{Record}
+use Rattle.image_extents.specs.Tables.{no_next}
 use Rattle.image_extents.specs.Listed.{romfs_listed}
 use Rattle.image_extents.specs.Found.{romfs_all_found}
 use Rattle.image_extents.specs.Sorted.{IsInOrder}
@@ -28,6 +30,9 @@ returns c =
       bytes = ap (λ (n : ℕ). take n all) c.stated_size.ensures;
       records = c.in_ok-add_romfs.ensures.records
           ∙ ap (λ (n : ℕ). romfs_listed (take n all) root) c.stated_size.ensures;
+      next = c.in_ok-next.ensures
+          ∙ ap (λ (v : List Record). map no_next v) (c.deref.ensures.value ∙ c.in_ok-add_romfs.ensures.records
+          ∙ ap (λ (n : ℕ). romfs_listed (take n all) root) c.stated_size.ensures);
       extents = order;
       apart = romfs_apart (accessible all) root c.requires.most c.requires.deepest c.requires.forest xs live
           c.requires.whole c.requires.few order;

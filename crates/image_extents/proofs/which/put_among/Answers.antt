@@ -1,14 +1,14 @@
 use Rattle.std.proofs.Common.{◌≡◌, ◌<◌, ◌≤◌, ℕ, suc, ◌+◌, ◌-◌, List}
-use Rattle.std.proofs.Common.{◌∙◌, ap, arith, get_or, length, subst, sym, take, drop}
+use Rattle.std.proofs.Common.{◌∙◌, Some, ap, arith, get_or, length, subst, sym}
 use Rattle.std.proofs.Common.{inl, inr}
 use Rattle.std.proofs.lemmas.Bool.{cases_lt}
 use Rattle.rom_fields.specs.Written.{Puts, sink}
-use Rattle.image_extents.specs.Lines.{between}
-use Rattle.image_extents.specs.Which.{next_start, owners_text}
+use Rattle.image_extents.specs.Lines.{between, run_text}
+use Rattle.image_extents.specs.Which.{next_start}
 use Rattle.image_extents.specs.declared.extent.Extent.{Extent}
 use Rattle.image_extents.specs.declared.extent.Extents.{Extents}
 use Rattle.image_extents.specs.declared.extent.Kind.TheVariants.{Super}
-use Rattle.image_extents.proofs.Owners.{Parts, among, at_gap, at_none, first_within, next_none, next_some, pred_is}
+use Rattle.image_extents.proofs.Owners.{Parts, at_gap, at_none, at_owner, next_none, next_some, pred_is}
 use Rattle.image_extents.proofs.which.put_among.Goals as goal
 
 abbrev none : Extent
@@ -68,13 +68,8 @@ returns g c =
     let w = c.begun-next.ensures.within in
     let x : Extent = get_or xs (n - 1) none in
     let has : c.args.at < x.start + x.len = subst (λ v. c.args.at < v) c.end.ensures c.if-end-at.false in
-    let F : ℕ → Type 0 = λ v. Parts xs v c.begun-first.result in
-    let q : Parts xs x.start c.begun-first.result = subst F c.from.ensures c.begun-first.ensures.parts in
-    let p1 : Parts xs (c.args.at + 1) (suc (n - 1)) = subst Q (sym s) p in
     let l : n - 1 < length xs = omega (arith, w, s) in
     let P : List ℕ → Type 0 = λ v. Puts (sink (g.W.ByteWrite.output c.args.w.now) c.args.failed.now)
-    (sink (g.W.ByteWrite.output c.put_owners.new.w) c.put_owners.new.failed) v in
-    let le = first_within c.args.base e c.args.at xs c.requires.apart (n - 1) c.begun-first.result none p1 l has q in
-    subst P (sym (among c.args.base e c.args.at xs c.requires.apart (n - 1) c.begun-first.result none p1 l has q le
-    ∙ ap (λ (v : ℕ). owners_text c.args.base e c.args.at
-    (take (v - c.begun-first.result) (drop c.begun-first.result xs))) s)) c.put_owners.ensures
+    (sink (g.W.ByteWrite.output c.put_run.new.w) c.put_run.new.failed) v in
+    subst P (ap (run_text c.args.base e (Some c.args.at)) c.run_at.ensures
+    ∙ sym (at_owner c.args.base e c.args.at xs (n - 1) none (subst Q (sym s) p) l has)) c.put_run.ensures

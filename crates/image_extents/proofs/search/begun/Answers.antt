@@ -2,7 +2,7 @@ use Rattle.std.proofs.Common.{◌<◌, ◌≤◌, ◌+◌, ◌-◌, ◌/◌, ℕ
 use Rattle.image_extents.specs.declared.extent.Extent.{Extent}
 use Rattle.image_extents.specs.declared.extent.Kind.TheVariants.{Super}
 use Rattle.image_extents.proofs.Owners.{before_middle, from_middle}
-use Rattle.image_extents.proofs.which.begun.Goals as goal
+use Rattle.image_extents.proofs.search.begun.Goals as goal
 
 abbrev none : Extent
 none = record { kind = Super; start = 0; len = 0; offset = 0; owner = 0 }

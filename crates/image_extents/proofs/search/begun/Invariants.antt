@@ -1,7 +1,7 @@
 use Rattle.std.proofs.Common.{◌<◌, ◌≤◌, ◌-◌, length}
 use Rattle.std.specs.List.{AllWithin}
 use Rattle.image_extents.specs.declared.extent.Extent.{Extent}
-use Rattle.image_extents.proofs.which.begun.Given as goal
+use Rattle.image_extents.proofs.search.begun.Given as goal
 
 abbrev pub invariant-loop-low : goal.invariant-loop-low
 invariant-loop-low l = record {
