@@ -18,12 +18,16 @@ pub trait Fill {
     // What an error means, by the source and the file before and after.
     ghost fails: { Self → Self → Output → Output → Self.Error → Type 0 };
 
+    // What does not change of a source, before and after.
+    ghost stays: { Self → Self → Type 0 };
+
     // What the source needs to be called.
     ghost ready: { Self → Type 0 };
 
     /// Writes all of the bytes.
     fn fill<W: ByteWrite>(&mut self, w: &mut W) -> Result<(), Self::Error>
         requires { ready self.old }
+        ensures stays { stays self.old self.new }
         ensures ok { OnOk result (writes self.old self.new (W.output w.old).contents
             (W.output w.new).contents) }
         ensures err { IfErr result (λ e. fails self.old self.new (W.output w.old)
@@ -40,6 +44,8 @@ impl<'a> Fill for Bytes<'a> {
     ghost writes = { λ s _ old new. Appends old new s.0.now };
 
     ghost fails = { λ _ _ old new _. Rose old.failures new.failures };
+
+    ghost stays = { λ _ _. ⊤ };
 
     ghost ready = { λ _. ⊤ };
 

@@ -59,6 +59,7 @@ pub fn finish<D: Directory, S: Fill>(
         (S.writes source.old source.new D.fresh)
         (IsUnwritten (S.fails source.old source.new) D.fresh)
         (D.log directory.old) (D.log directory.new) e) }
+    ensures stays { S.stays source.old source.new }
 {
     let Begun { name, mut part } = begun;
     match source.fill(&mut part) {

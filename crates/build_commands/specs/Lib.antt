@@ -12,3 +12,5 @@ pub mod Scans
 pub mod Names
 pub mod Rules
 pub mod Lines
+pub mod Sources
+pub mod Built

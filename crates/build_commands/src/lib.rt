@@ -1,5 +1,10 @@
-//! What the program prints when it builds images and scans directories, and the rules for make that
-//! it writes. A line is a list of parts (`Part`), which one function writes.
+//! The end of a build, what the program prints when it builds images and scans directories, and the
+//! rules for make that it writes. A line is a list of parts (`Part`), which one function writes.
+//!
+//! Proved, for every directory, opener of files and output: what `Ok` of `build_file` means
+//! (`specs/Built.antt`). The text is a manifest, the file was replaced by the image of its plan,
+//! with the contents that reads told of the files by whose names its sources are opened, and
+//! exactly `ok LENGTH` was written. `build_over` is the same for a file that is written in place.
 //!
 //! Proved: each function writes exactly its line or its manifest, or a prefix of it if a write
 //! failed; and a scan prints a manifest of exactly the names that it found, which means a tree of
@@ -20,6 +25,7 @@
 
 mod building;
 pub mod changes;
+mod command;
 pub mod inventory;
 pub mod laws;
 mod line;
@@ -29,14 +35,19 @@ mod printing;
 mod rule;
 mod rule_name;
 mod scanning;
+mod sources;
 mod warnings;
 
 pub use building::{
     print_bad_manifest, print_built, print_misfit, print_size, print_strict, print_xip,
+};
+pub use command::{
+    Closer, Companion, Ended, Job, Tools, Unbuilt, Unplaced, build_file, build_over,
 };
 pub use line::{print_line, put_line, write_line};
 pub use part::Part;
 pub use printing::{PrintError, print_walked};
 pub use rule::Rule;
 pub use scanning::{Found, put_scan};
+pub use sources::joined_name;
 pub use warnings::warning_name;

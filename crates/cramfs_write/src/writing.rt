@@ -61,8 +61,10 @@ pub fn stream_through<S: Sources, W: ByteWrite>(
     requires room { 4096 ≤ length buffer.old }
     requires words { length buffer.old % 4 ≡ 0 }
     ensures { StreamsPlan plan.now
-        (state (S.known sources.old) (S.files sources.old) (S.reads sources.old))
-        (state (S.known sources.new) (S.files sources.new) (S.reads sources.new))
+        (state (S.known sources.old) (S.files sources.old) (S.names sources.old)
+        (S.reads sources.old))
+        (state (S.known sources.new) (S.files sources.new) (S.names sources.new)
+        (S.reads sources.new))
         (S.IsLog sources.old) (S.IsLog sources.new) (W.output w.old) (W.output w.new) result }
 {
     let order = order_of(plan);
@@ -82,8 +84,10 @@ pub fn stream<S: Sources, W: ByteWrite>(
     requires format { (o : Order) × (plan.now.format ≡ cramfs o) }
     requires files { S.files sources.old ≡ length plan.now.sizes }
     ensures { StreamsPlan plan.now
-        (state (S.known sources.old) (S.files sources.old) (S.reads sources.old))
-        (state (S.known sources.new) (S.files sources.new) (S.reads sources.new))
+        (state (S.known sources.old) (S.files sources.old) (S.names sources.old)
+        (S.reads sources.old))
+        (state (S.known sources.new) (S.files sources.new) (S.names sources.new)
+        (S.reads sources.new))
         (S.IsLog sources.old) (S.IsLog sources.new) (W.output w.old) (W.output w.new) result }
 {
     let mut space: [u8; 4096] = [0; 4096];

@@ -36,6 +36,8 @@ impl<'c> Opener for InMemory<'c> {
     fn read_at(&mut self, file: &&'c [u8], at: u64, buf: &mut [u8]) -> io::Result<usize> {
         file.read_at(buf, at)
     }
+
+    fn end(&mut self) {}
 }
 
 /// Returns files in memory as sources. They tell these contents, as `image_stream::Slices` does.

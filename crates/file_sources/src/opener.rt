@@ -53,4 +53,9 @@ pub trait Opener: Drop {
         ensures contents { contents self.new ≡ contents self.old }
         ensures log { Tells (IsLog self.old) (IsLog self.new)
             (told_by (name_of file.now) at result buf.new) };
+
+    /// Notes that nothing more is read.
+    fn end(&mut self)
+        ensures contents { contents self.new ≡ contents self.old }
+        ensures log { (log : List Told) → IsLog self.old log → IsLog self.new log };
 }

@@ -30,6 +30,7 @@ impl<'a, O: Opener> FileSources<'a, O> {
     /// Returns the files of these names, which have to have these states when they are opened.
     pub fn new(opener: O, names: &'a [O::Name], states: &'a [O::State]) -> FileSources<'a, O>
         ensures files { ⟦<FileSources<'a, O> as Sources>⟧.files result ≡ length names.now }
+        ensures names { ⟦<FileSources<'a, O> as Sources>⟧.names result ≡ map O.spelled names.now }
         ensures known { ⟦<FileSources<'a, O> as Sources>⟧.known result
             ≡ contents_of_all (O.contents opener) (map O.spelled names.now) }
         ensures log { (log : List Answer) → ⟦<FileSources<'a, O> as Sources>⟧.IsLog result log
@@ -48,12 +49,13 @@ impl<'a, O: Opener> FileSources<'a, O> {
 
     /// Returns the opener, and the reason of the last read that failed, if one did.
     pub fn into_parts(self) -> (O, Option<io::Error>)
-        ensures opener { (names : List (List ℕ))
-            × (⟦<FileSources<'a, O> as Sources>⟧.files self.entry ≡ length names)
-            × (⟦<FileSources<'a, O> as Sources>⟧.known self.entry
-            ≡ contents_of_all (O.contents result.0) names)
-            × ((log : List Answer) → ⟦<FileSources<'a, O> as Sources>⟧.IsLog self.entry log
-            ↔ IsLogOf names (O.IsLog result.0) log) }
+        ensures files { ⟦<FileSources<'a, O> as Sources>⟧.files self.entry
+            ≡ length (⟦<FileSources<'a, O> as Sources>⟧.names self.entry) }
+        ensures known { ⟦<FileSources<'a, O> as Sources>⟧.known self.entry
+            ≡ contents_of_all (O.contents result.0)
+            (⟦<FileSources<'a, O> as Sources>⟧.names self.entry) }
+        ensures log { (log : List Answer) → ⟦<FileSources<'a, O> as Sources>⟧.IsLog self.entry log
+            ↔ IsLogOf (⟦<FileSources<'a, O> as Sources>⟧.names self.entry) (O.IsLog result.0) log }
         ensures reason { is_some result.1
             ≡ is_some (⟦<FileSources<'a, O> as Sources>⟧.reads self.entry).failed }
     {
@@ -74,6 +76,8 @@ impl<'a, O: Opener> Sources for FileSources<'a, O> {
     ghost known = { λ s. contents_of_all (O.contents s.opener) (map O.spelled s.names.now) };
 
     ghost files = { λ s. length s.names.now };
+
+    ghost names = { λ s. map O.spelled s.names.now };
 
     ghost reads = { λ s. record { failures = s.failures; failed = s.failed } };
 

@@ -60,6 +60,8 @@ impl<'a, S: Sources, K: LastCheck> Fill for PlanImage<'a, S, K> {
     ghost fails = { λ s t old new e. IsImageFault (K.fails s.last t.last) (S.known s.sources)
         s.plan.now (S.reads s.sources) (S.reads t.sources) old new e };
 
+    ghost stays = { λ s t. S.names t.sources ≡ S.names s.sources };
+
     ghost ready = { λ s. (S.files s.sources ≡ length s.plan.now.sizes)
         × (4096 ≤ length s.buffer.now) × (length s.buffer.now % 4 ≡ 0) };
 

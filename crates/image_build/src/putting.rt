@@ -56,6 +56,7 @@ pub fn put<D: Directory, S: Sources, K: LastCheck>(
         (S.known image.old.sources) image.old.plan.now (S.reads image.old.sources)
         (S.reads image.new.sources)) D.fresh)
         (D.log directory.old) (D.log directory.new) e) }
+    ensures names { S.names image.new.sources ≡ S.names image.old.sources }
 {
     finish(directory, names, begun, image)
 }

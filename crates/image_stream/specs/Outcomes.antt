@@ -71,14 +71,17 @@ IsStreamFault known f stored r r' w w' WriteFault = Rose w.failures w'.failures
 IsStreamFault known f stored r r' w w' Changed =
     IsMisstored known f stored w.contents w'.contents × IfKnown known (λ cs. ⊥)
 
--- the contents of sources (if these are known), their number, and the counts of failed reads
+-- the contents of sources (if these are known), their number, their names (if they have names), and
+-- the counts of failed reads
 pub record SourcesState : Type 0 where
   pub known : Option (List (List ℕ))
   pub files : ℕ
+  pub names : List (List ℕ)
   pub reads : Reads
 
-abbrev pub state : Option (List (List ℕ)) → ℕ → Reads → SourcesState
-state known files reads = record { known = known; files = files; reads = reads }
+abbrev pub state : Option (List (List ℕ)) → ℕ → List (List ℕ) → Reads → SourcesState
+state known files names reads =
+    record { known = known; files = files; names = names; reads = reads }
 
 -- What a stream of an image promises, by the sources and the log before it and after it, by the
 -- writer's bytes and failures before it and after it, and by its result. The sources stay the same.
@@ -91,6 +94,7 @@ pub record Streams {A : Type 0} (f : Form) (stored : List ℕ → ℕ) (s s' : S
     (result : Result A StreamError) : Type 0 where
   pub known : s'.known ≡ s.known
   pub files : s'.files ≡ s.files
+  pub names : s'.names ≡ s.names
   pub some : OnOk result (IsStreamed s.known was is f stored w.contents w'.contents)
   pub sized : OnOk result (IfKnown s.known (AreSized f.sizes))
   pub whole : OnOk result (IfKnown s.known

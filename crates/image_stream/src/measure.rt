@@ -21,6 +21,7 @@ fn reaches<S: Sources>(
     requires room { 0 < length buffer.old }
     ensures known { S.known sources.new ≡ S.known sources.old }
     ensures files { S.files sources.new ≡ S.files sources.old }
+    ensures names { S.names sources.new ≡ S.names sources.old }
     ensures yes { IfOk result (λ yes. yes ≡ true → IfKnown (S.known sources.old)
         (λ cs. size ≤ length (content_of cs file))) }
     ensures no { IfOk result (λ yes. yes ≡ false → IfKnown (S.known sources.old)
@@ -51,6 +52,7 @@ fn measure<S: Sources>(
     requires room { 0 < length buffer.old }
     ensures known { S.known sources.new ≡ S.known sources.old }
     ensures files { S.files sources.new ≡ S.files sources.old }
+    ensures names { S.names sources.new ≡ S.names sources.old }
     ensures ok { OnOk result (IfKnown (S.known sources.old)
         (λ cs. length (content_of cs file) ≡ size)) }
     ensures grew { OnOk result (Grew (S.IsLog sources.old) (S.IsLog sources.new)) }
@@ -81,6 +83,7 @@ pub fn measure_all<L: Segmented, S: Sources>(
     requires room { 0 < length buffer.old }
     ensures known { S.known sources.new ≡ S.known sources.old }
     ensures files { S.files sources.new ≡ S.files sources.old }
+    ensures names { S.names sources.new ≡ S.names sources.old }
     ensures ok { OnOk result (IfKnown (S.known sources.old) (AreSized (L.form layout.now).sizes)) }
     ensures grew { OnOk result (Grew (S.IsLog sources.old) (S.IsLog sources.new)) }
     ensures quiet { OnOk result (S.reads sources.new ≡ S.reads sources.old) }

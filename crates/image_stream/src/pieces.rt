@@ -30,6 +30,7 @@ fn read_exactly<S: Sources>(
     requires small { at + length buffer.old < 2 ^ 64 }
     ensures known { S.known sources.new ≡ S.known sources.old }
     ensures files { S.files sources.new ≡ S.files sources.old }
+    ensures names { S.names sources.new ≡ S.names sources.old }
     ensures ok { OnOk result (IfKnown (S.known sources.old)
         (λ cs. buffer.new ≡ take (length buffer.new) (drop at (content_of cs file)))) }
     ensures read { OnOk result (Read (λ answers xs. AreReads file at answers xs)
@@ -70,6 +71,7 @@ fn piece<L: Segmented, S: Sources>(
     requires files { S.files sources.old ≡ length (L.form layout.now).sizes }
     ensures known { S.known sources.new ≡ S.known sources.old }
     ensures files { S.files sources.new ≡ S.files sources.old }
+    ensures names { S.names sources.new ≡ S.names sources.old }
     ensures ok { OnOk result (IsPiece (S.known sources.old)
         (segment_at (L.form layout.now).segments i) from out.new) }
     ensures read { OnOk result (Read
@@ -106,6 +108,7 @@ fn copy_segment<L: Segmented, S: Sources, K: Sink>(
     requires words { length buffer.old % 4 ≡ 0 }
     ensures known { S.known sources.new ≡ S.known sources.old }
     ensures files { S.files sources.new ≡ S.files sources.old }
+    ensures names { S.names sources.new ≡ S.names sources.old }
     ensures ok { OnOk result (Sent K.NeedsAll
         (IsBody (S.known sources.old) (segment_at (L.form layout.now).segments i))
         (λ answers. IsBodyRead answers (segment_at (L.form layout.now).segments i))
@@ -199,6 +202,7 @@ fn next_segment<L: Segmented, S: Sources, K: Sink>(
     requires words { length buffer.old % 4 ≡ 0 }
     ensures known { S.known sources.new ≡ S.known sources.old }
     ensures files { S.files sources.new ≡ S.files sources.old }
+    ensures names { S.names sources.new ≡ S.names sources.old }
     ensures end { IfOk result (λ n. n ≡ place (segment_at (L.form layout.now).segments i)
         + len (segment_at (L.form layout.now).segments i)) }
     ensures ok { OnOk result (Sent K.NeedsAll
@@ -245,6 +249,7 @@ pub fn walk<L: Segmented, S: Sources, K: Sink>(
     requires words { length buffer.old % 4 ≡ 0 }
     ensures known { S.known sources.new ≡ S.known sources.old }
     ensures files { S.files sources.new ≡ S.files sources.old }
+    ensures names { S.names sources.new ≡ S.names sources.old }
     ensures ok { OnOk result (Sent K.NeedsAll
         (IsImage (S.known sources.old)
         (L.form layout.now).start (L.form layout.now).segments (L.form layout.now).end)

@@ -1,5 +1,5 @@
 //! Sources that are in memory.
-ghost use Rattle.std.specs.Prelude.{◌≡◌, Some, length};
+ghost use Rattle.std.specs.Prelude.{◌≡◌, [], Some, length};
 ghost use Rattle.image_stream.specs.Answers.{AreOf};
 ghost use Rattle.image_stream.specs.Sources.{contents_in, no_failures};
 
@@ -25,6 +25,8 @@ impl<'c> Sources for Slices<'c> {
     ghost known = { λ s. Some (contents_in s) };
 
     ghost files = { λ s. length (contents_in s) };
+
+    ghost names = { λ _. [] };
 
     ghost reads = { λ _. no_failures };
 

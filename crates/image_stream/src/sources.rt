@@ -16,6 +16,9 @@ pub trait Sources {
     // The number of files.
     ghost files: { Self → ℕ };
 
+    // The names of all files, if they have names.
+    ghost names: { Self → List (List ℕ) };
+
     // The number of failed reads, and the file of the last one that failed.
     ghost reads: { Self → Reads };
 
@@ -36,6 +39,7 @@ pub trait Sources {
         ensures bytes { ReadsAt (known self.old) file at result buf.new }
         ensures known { known self.new ≡ known self.old }
         ensures files { files self.new ≡ files self.old }
+        ensures names { names self.new ≡ names self.old }
         ensures count { reads self.new ≡ after_read_of file (reads self.old) result }
         ensures log { Logs (IsLog self.old) (IsLog self.new)
             (answer_of file at result buf.new) };

@@ -82,8 +82,10 @@ pub fn stream_through<L: Segmented, S: Sources, W: ByteWrite, C: Checksum>(
     requires room { 4096 ≤ length buffer.old }
     requires words { length buffer.old % 4 ≡ 0 }
     ensures { Streams (L.form layout.now) C.stored
-        (state (S.known sources.old) (S.files sources.old) (S.reads sources.old))
-        (state (S.known sources.new) (S.files sources.new) (S.reads sources.new))
+        (state (S.known sources.old) (S.files sources.old) (S.names sources.old)
+        (S.reads sources.old))
+        (state (S.known sources.new) (S.files sources.new) (S.names sources.new)
+        (S.reads sources.new))
         (S.IsLog sources.old) (S.IsLog sources.new) (W.output w.old) (W.output w.new) result }
 {
     match measure_all(layout, sources, buffer) {
@@ -130,8 +132,10 @@ pub fn stream<L: Segmented, S: Sources, W: ByteWrite, C: Checksum>(
     requires laid { IsLaidOut (L.form layout.now) }
     requires files { S.files sources.old ≡ length (L.form layout.now).sizes }
     ensures { Streams (L.form layout.now) C.stored
-        (state (S.known sources.old) (S.files sources.old) (S.reads sources.old))
-        (state (S.known sources.new) (S.files sources.new) (S.reads sources.new))
+        (state (S.known sources.old) (S.files sources.old) (S.names sources.old)
+        (S.reads sources.old))
+        (state (S.known sources.new) (S.files sources.new) (S.names sources.new)
+        (S.reads sources.new))
         (S.IsLog sources.old) (S.IsLog sources.new) (W.output w.old) (W.output w.new) result }
 {
     let mut space: [u8; 4096] = [0; 4096];

@@ -46,6 +46,8 @@ impl Opener for Troubled {
         buf[..n].fill(*file);
         Ok(n)
     }
+
+    fn end(&mut self) {}
 }
 
 /// How many bytes are read of a file at an offset, and a buffer of three bytes then.

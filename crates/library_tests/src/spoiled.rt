@@ -54,11 +54,13 @@ fn copied(content: &[u8], at: u64, buf: &mut [u8]) -> usize
 }
 
 impl<'c> Sources for Spoiled<'c> {
-    ghost use Rattle.std.specs.Prelude.{None, length, ⊤};
+    ghost use Rattle.std.specs.Prelude.{None, [], length, ⊤};
 
     ghost known = { λ _. None };
 
     ghost files = { λ s. length s.contents.now };
+
+    ghost names = { λ _. [] };
 
     ghost reads = { λ s. record { failures = s.failures; failed = s.failed } };
 

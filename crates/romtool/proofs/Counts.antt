@@ -1,7 +1,7 @@
 -- The number of sources.
 use Rattle.std.proofs.Common.{◌≡◌, ℕ, List, Option, Some, None, length, map, ap, sym, ◌∙◌, refl}
 use Rattle.std.proofs.lemmas.List.{length-map}
-use Rattle.romtool.specs.Sources.{joined, opened_as}
+use Rattle.build_commands.specs.Sources.{joined, opened_as}
 
 all_opened : (directory : Option (List ℕ)) (sources : List (List ℕ))
     → length (opened_as directory sources) ≡ length sources

@@ -1,10 +1,13 @@
 //! Builds an image from a manifest and files.
-ghost use Rattle.std.specs.Prelude.{◌≡◌, ◌≤◌, ◌%◌, length, map, IfOk, IfSome, None, Some};
+ghost use Rattle.std.specs.Prelude.{◌≡◌, ◌≤◌, ◌%◌, length, map, IfOk, IfSome, None, Ok, OnOk};
+ghost use Rattle.std.specs.Prelude.{Some};
+ghost use Rattle.build_commands.specs.Built.{IsWithin};
+ghost use Rattle.manifest.specs.Grammar.{manifest_of};
 ghost use Rattle.std.specs.Prelude.{option_map};
 ghost use Rattle.manifest.specs.Lines.{sources_of};
 ghost use Rattle.formats.specs.Format.{format_of};
 ghost use Rattle.plan_types.specs.Plans.{IsPlanOf};
-ghost use Rattle.romtool.specs.Sources.{opened_as};
+ghost use Rattle.build_commands.specs.Sources.{opened_as};
 
 use crate::files::{Files, INPUT, Kept, kept_names, kept_states, say_not_taken};
 use crate::foreseen::{Warnings, foreseen};
@@ -17,12 +20,11 @@ use crate::sources::{joined_names, names_of, sizes_of, stamps_of, texts_of};
 use crate::watched::Watched;
 use crate::{bad_lines, contents, depfile, explained, reading, warned};
 use build_commands::{
-    Rule, print_bad_manifest, print_built, print_misfit, print_size, print_strict, print_xip,
+    Ended, Job, Rule, Tools, Unbuilt, print_bad_manifest, print_misfit, print_size, print_strict,
+    print_xip,
 };
 use command_line::Build;
-use file_sources::FileSources;
-use image_build::{Padding, PlanImage, Unwritten};
-use image_stream::Sources;
+use image_build::{Padding, Unwritten};
 use layout_plan::{PlanError, plan};
 use manifest::{Manifest, ManifestError, parse};
 use plan_types::{Format, Plan};
@@ -33,7 +35,8 @@ use sentences::reasons::{OWN_ERROR, OWN_INPUT, OWN_OUTPUT, PART_REPLACED};
 use std::alloc::AllocError;
 use std::{fs, io};
 use system_files::{
-    Disk, FillError, Identity, KeepError, Progress, Stamp, Target, Unchanged, let_rest, own_output,
+    Disk, FillError, Identity, KeepError, KeptWith, Late, Progress, Stamp, Target, Unchanged,
+    let_rest, own_output,
 };
 
 /// The number of bytes of a source that are read at once, if there is memory for them.
@@ -64,7 +67,9 @@ fn text_of(reporter: &Reporter<'_>, name: &str) -> Result<reading::Text, Status>
 }
 
 /// The manifest of a text, which is in the file of this name.
-fn manifest_of(reporter: &Reporter<'_>, name: &str, text: &[u8]) -> Result<Manifest, Status> {
+fn manifest_of(reporter: &Reporter<'_>, name: &str, text: &[u8]) -> Result<Manifest, Status>
+    ensures { IfOk result (λ m. manifest_of text.now ≡ Ok m) }
+{
     let rt = reporter.rt;
     match parse(rt.alloc(), text) {
         Ok(manifest) => Ok(manifest),
@@ -89,6 +94,8 @@ fn planned(
     requires { length sizes.now ≡ length (sources_of origin.manifest.now.lines) }
     ensures plan { IfOk result (IsPlanOf (format_of format) origin.entry.manifest.now sizes.now) }
     ensures sizes { IfOk result (λ plan. plan.sizes ≡ sizes.now) }
+    ensures own { IfOk result (λ plan. IsPlanOf plan.format origin.entry.manifest.now plan.sizes
+        plan) }
 {
     let rt = reporter.rt;
     match plan(rt.alloc(), origin.manifest, sizes, format) {
@@ -242,17 +249,35 @@ fn buffer_of(rt: &HostRuntime, len: usize) -> Option<Vec<u8>>
     }
 }
 
-/// Returns the files as the sources of an image. Their reading is shown as progress.
-fn disk_of<'a>(rt: &'a HostRuntime, plan: &Plan, files: Files<'a>) -> FileSources<'a, Disk<'a>>
-    ensures { ⟦<FileSources<'a, Disk<'a>> as Sources>⟧.files result
-        ≡ length files.entry.names.now }
+/// Returns the job of a plan, and the files of the system. Their reading is shown as progress.
+fn job_of<'a>(
+    rt: &'a HostRuntime,
+    plan: &'a Plan,
+    files: Files<'a>,
+    most: Option<u64>,
+    padding: Padding,
+) -> (Job<'a, Disk<'a>>, Disk<'a>)
+    requires planned { IsPlanOf plan.now.format files.origin.manifest.now plan.now.sizes plan.now }
+    requires count { length plan.now.sizes
+        ≡ length (sources_of files.origin.manifest.now.lines) }
+    requires within { IsWithin most plan.now.image_len }
 {
     let bytes = plan
         .sizes()
         .iter()
         .fold(0, |sum: u64, size| sum.saturating_add(*size));
     let progress = Progress::new(rt, bytes.saturating_mul(passes(plan.format())));
-    FileSources::new(Disk::new(rt, progress), files.names, files.stamps)
+    let job = Job {
+        text: files.origin.text,
+        manifest: files.origin.manifest,
+        directory: files.directory,
+        names: files.names,
+        states: files.stamps,
+        plan,
+        most,
+        padding,
+    };
+    (job, Disk::new(rt, progress))
 }
 
 /// Prints why a target did not get its name.
@@ -263,20 +288,16 @@ fn say_unkept(reporter: &Reporter<'_>, e: KeepError, name: &str) -> Status {
     }
 }
 
-/// Gives its name to a target that was written.
-fn keep(reporter: &Reporter<'_>, target: Target, name: &str) -> Result<(), Status> {
-    match target.keep(reporter.rt) {
-        Ok(()) => Ok(()),
-        Err(e) => Err(say_unkept(reporter, e, name)),
-    }
-}
-
-/// Where an image goes: the target, its name, and the bytes that follow the image.
+/// Where an image goes: the target and its name, the most bytes that it may have, the bytes that
+/// follow it, and the rule that is kept with it and its name.
 #[derive(Drop)]
 struct Destination<'a> {
     target: Target,
     out: &'a str,
+    most: Option<u64>,
     padding: Padding,
+    rule: Option<Target>,
+    depfile: Option<&'a str>,
 }
 
 /// Returns the most bytes that an image may have, if there is a limit.
@@ -299,7 +320,7 @@ fn padding_after(asked: Build<'_>, len: usize) -> Padding {
     }
 }
 
-/// Writes the image of a plan, made of these files, through a buffer, and gives it its name.
+/// Builds the image of a plan through a buffer, and reports this or why it was not built.
 fn put_image(
     reporter: &Reporter<'_>,
     plan: &Plan,
@@ -307,7 +328,10 @@ fn put_image(
     destination: Destination<'_>,
     buffer: &mut [u8],
 ) -> Result<(), Status>
-    requires sizes { length plan.now.sizes ≡ length files.names.now }
+    requires planned { IsPlanOf plan.now.format files.origin.manifest.now plan.now.sizes plan.now }
+    requires count { length plan.now.sizes
+        ≡ length (sources_of files.origin.manifest.now.lines) }
+    requires within { IsWithin destination.most plan.now.image_len }
     requires buffer { 4096 ≤ length buffer.old }
     requires words { length buffer.old % 4 ≡ 0 }
 {
@@ -315,54 +339,66 @@ fn put_image(
     let Destination {
         target,
         out,
+        most,
         padding,
+        rule,
+        depfile,
     } = destination;
-    let sources = disk_of(rt, plan, files);
-    let last = Unchanged {
-        rt,
-        manifest: files.manifest_state(),
-        names: files.kept.names,
-        stamps: files.kept.states,
+    let (job, opener) = job_of(rt, plan, files, most, padding);
+    let tools = Tools {
+        opener,
+        last: Unchanged {
+            rt,
+            manifest: files.manifest_state(),
+            names: files.kept.names,
+            stamps: files.kept.states,
+        },
+        companion: KeptWith { rt, target: rule },
     };
-    let mut image = PlanImage {
-        plan,
-        sources,
-        padding,
-        last,
-        buffer,
-    };
-    let filled = target.fill(rt, &mut image);
-    let PlanImage {
-        plan: _,
-        sources,
-        padding: _,
+    let stdout = &mut Plain::new(Held::new(rt.alloc(), io::writer(rt)));
+    let Ended {
+        opener: _,
         last: _,
-        buffer: _,
-    } = image;
-    let (mut disk, unread) = sources.into_parts();
-    disk.end();
-    match filled {
+        unread,
+        result,
+    } = target.build(rt, &job, tools, buffer, stdout);
+    match result {
         Ok(()) => Ok(()),
-        Err(FillError::NotKept(e)) => Err(say_unkept(reporter, e, out)),
-        Err(FillError::NotWritten(Unwritten::Late(late), _)) => Err(files.say_late(reporter, late)),
-        Err(FillError::NotWritten(Unwritten::Padded, reason)) => {
-            Err(say_not_taken(reporter, reason, out))
-        }
-        Err(FillError::NotWritten(Unwritten::Stream(e), reason)) => {
-            Err(files.say_unwritten(reporter, e, (unread, reason), out))
+        Err(Unbuilt::NotMade(e)) => Err(say_unmade(reporter, files, e, unread, out)),
+        Err(Unbuilt::NotKept(e)) => Err(say_unkept(reporter, e, depfile.unwrap_or(""))),
+        Err(Unbuilt::NotReported) => Err(reporter.say(Ending::WriteFault)),
+    }
+}
+
+/// Reports why an image was not made, for the system's reason if a source could not be read.
+fn say_unmade(
+    reporter: &Reporter<'_>,
+    files: Files<'_>,
+    e: FillError<Unwritten<Late>>,
+    unread: Option<io::Error>,
+    out: &str,
+) -> Status {
+    match e {
+        FillError::NotKept(e) => say_unkept(reporter, e, out),
+        FillError::NotWritten(Unwritten::Late(late), _) => files.say_late(reporter, late),
+        FillError::NotWritten(Unwritten::Padded, reason) => say_not_taken(reporter, reason, out),
+        FillError::NotWritten(Unwritten::Stream(e), reason) => {
+            files.say_unwritten(reporter, e, (unread, reason), out)
         }
     }
 }
 
-/// Writes the image of a plan, made of these files, through a large buffer if there is memory for
-/// it, and gives it its name.
+/// Builds the image of a plan through a large buffer, if there is memory for it.
 fn write_image(
     reporter: &Reporter<'_>,
     plan: &Plan,
     files: Files<'_>,
     destination: Destination<'_>,
 ) -> Result<(), Status>
-    requires { length plan.now.sizes ≡ length files.names.now }
+    requires planned { IsPlanOf plan.now.format files.origin.manifest.now plan.now.sizes plan.now }
+    requires count { length plan.now.sizes
+        ≡ length (sources_of files.origin.manifest.now.lines) }
+    requires within { IsWithin destination.most plan.now.image_len }
 {
     match buffer_of(reporter.rt, LARGE) {
         Some(mut buffer) => put_image(reporter, plan, files, destination, buffer.as_mut_slice()),
@@ -373,21 +409,21 @@ fn write_image(
     }
 }
 
-/// Removes a target that was written, if there is one.
-fn abandon(reporter: &Reporter<'_>, target: Option<Target>) {
-    if let Some(target) = target {
-        target.abandon(reporter.rt);
-    }
-}
-
 /// Refuses a plan whose image is longer than it may be.
-fn check_size(reporter: &Reporter<'_>, asked: Build<'_>, plan: &Plan) -> Result<(), Status> {
+fn check_size(
+    reporter: &Reporter<'_>,
+    out: &str,
+    most: Option<u64>,
+    plan: &Plan,
+) -> Result<(), Status>
+    ensures { OnOk result (IsWithin most plan.now.image_len) }
+{
     let len = plan.image_len() as u64;
-    match most_bytes(asked) {
+    match most {
         Some(most) if len > most => {
-            let out = &mut Plain::new(Held::new(reporter.rt.alloc(), io::writer(reporter.rt)));
-            let status = printed(reporter, print_size(out, len, most));
-            warned::explain_size(reporter, asked.out, len, most);
+            let stdout = &mut Plain::new(Held::new(reporter.rt.alloc(), io::writer(reporter.rt)));
+            let status = printed(reporter, print_size(stdout, len, most));
+            warned::explain_size(reporter, out, len, most);
             Err(status)
         }
         _ => Ok(()),
@@ -447,18 +483,20 @@ fn check_programs(
     }
 }
 
-/// Writes the image of a plan into the file that is asked for, and the rule if one is.
+/// Builds the image of a plan in the file that is asked for, and the rule if one is. The image has
+/// at most this number of bytes, if there is one.
 fn write_files(
     reporter: &Reporter<'_>,
     asked: Build<'_>,
     plan: &Plan,
+    most: Option<u64>,
     files: Files<'_>,
 ) -> Result<(), Status>
-    requires names { map (λ n. n.now) files.names.now
-        ≡ opened_as (option_map (λ d. d.now) asked.sources)
-        (sources_of files.origin.manifest.now.lines) }
+    requires planned { IsPlanOf plan.now.format files.origin.manifest.now plan.now.sizes plan.now }
+    requires count { length plan.now.sizes
+        ≡ length (sources_of files.origin.manifest.now.lines) }
     requires sizes { plan.now.sizes ≡ map (λ s. s.len) files.stamps.now }
-    requires count { length plan.now.sizes ≡ length files.names.now }
+    requires within { IsWithin most plan.now.image_len }
 {
     let inputs = Inputs {
         manifest: files.manifest.identity,
@@ -479,16 +517,12 @@ fn write_files(
     let destination = Destination {
         target,
         out: asked.out,
+        most,
         padding: padding_after(asked, plan.image_len()),
+        rule,
+        depfile: asked.depfile,
     };
-    if let Err(status) = write_image(reporter, plan, files, destination) {
-        abandon(reporter, rule);
-        return Err(status);
-    }
-    match (rule, asked.depfile) {
-        (Some(rule), Some(name)) => keep(reporter, rule, name),
-        _ => Ok(()),
-    }
+    write_image(reporter, plan, files, destination)
 }
 
 /// An image that was built: the status, and the numbers of bytes of the image and of each source.
@@ -550,7 +584,8 @@ fn build_from<'a>(
     let stamps = stamps_of(reporter, origin, names)?;
     let sizes = sizes_of(reporter, &stamps)?;
     let plan = planned(reporter, asked.format, origin, &sizes)?;
-    check_size(reporter, asked, &plan)?;
+    let most = most_bytes(asked);
+    check_size(reporter, asked.out, most, &plan)?;
     let warnings = warnings_of(reporter, asked, origin, &sizes)?;
     let (owned, states) = kept_files(reporter, names, &stamps, origin.watched)?;
     let kept = as_texts(reporter, &owned)?;
@@ -569,25 +604,23 @@ fn build_from<'a>(
         kept,
     };
     let programs = check_programs(reporter, asked, &plan, files)?;
-    write_files(reporter, asked, &plan, files)?;
-    let len = plan.image_len() as u64;
-    let status = say_built(reporter, len);
+    write_files(reporter, asked, &plan, most, files)?;
     warned::explain(reporter, origin, &warnings, "warning: ");
     Ok(Built {
-        status,
-        len,
+        status: Status::Done,
+        len: plan.image_len() as u64,
         sizes,
         programs,
     })
 }
 
-/// Reports that an image of this number of bytes was built.
-fn say_built(reporter: &Reporter<'_>, len: u64) -> Status {
-    let line = &mut Plain::new(Held::new(reporter.rt.alloc(), io::writer(reporter.rt)));
-    match print_built(line, len) {
-        Ok(()) => Status::Done,
-        Err(Failed) => reporter.say(Ending::WriteFault),
-    }
+/// A manifest, its text, and the file of the text.
+#[derive(Clone, Copy)]
+struct Given<'a> {
+    text: &'a [u8],
+    manifest: &'a Manifest,
+    file: TextFile,
+    ghost says: { manifest_of text.now ≡ Ok manifest.now },
 }
 
 /// Builds the image of a manifest, whose sources are named as it names them, and were found in
@@ -595,15 +628,20 @@ fn say_built(reporter: &Reporter<'_>, len: u64) -> Status {
 fn build_plain<'a>(
     reporter: &Reporter<'_>,
     asked: Build<'a>,
-    manifest: &'a Manifest,
+    given: Given<'a>,
     scanned: (&'a [String], &'a [Watched]),
-    file: TextFile,
 ) -> Result<Built, Status>
     requires { asked.sources ≡ None }
 {
+    let Given {
+        text,
+        manifest,
+        file,
+    } = given;
     let (directories, watched) = scanned;
     let origin = Origin {
         name: asked.manifest,
+        text,
         manifest,
         joined: None,
         no_follow: asked.no_follow,
@@ -619,17 +657,21 @@ fn build_joined<'a>(
     reporter: &Reporter<'_>,
     asked: Build<'a>,
     joined: &'a [Vec<u8>],
-    manifest: &'a Manifest,
-    file: TextFile,
+    given: Given<'a>,
 ) -> Result<Built, Status>
     requires { map (λ j. j.items) joined.now ≡ opened_as (option_map (λ d. d.now) asked.sources)
-        (sources_of manifest.now.lines) }
+        (sources_of given.manifest.now.lines) }
 {
-    let given = Some(joined);
+    let Given {
+        text,
+        manifest,
+        file,
+    } = given;
     let origin = Origin {
         name: asked.manifest,
+        text,
         manifest,
-        joined: given,
+        joined: Some(joined),
         no_follow: asked.no_follow,
         directories: &[],
         watched: &[],
@@ -643,22 +685,26 @@ fn build_in(
     reporter: &Reporter<'_>,
     asked: Build<'_>,
     directory: &str,
-    manifest: &Manifest,
-    file: TextFile,
+    given: Given<'_>,
 ) -> Result<Built, Status>
     requires { option_map (λ d. d.now) asked.sources ≡ Some directory.now }
 {
-    let joined = joined_names(reporter, directory, manifest.sources())?;
-    build_joined(reporter, asked, &joined, manifest, file)
+    let joined = joined_names(reporter, directory, given.manifest.sources())?;
+    build_joined(reporter, asked, &joined, given)
 }
 
 /// Builds what is asked for, and reports the result.
 fn build(reporter: &Reporter<'_>, asked: Build<'_>) -> Result<Status, Status> {
     let text = text_of(reporter, asked.manifest)?;
     let manifest = manifest_of(reporter, asked.manifest, &text.bytes)?;
+    let given = Given {
+        text: &text.bytes,
+        manifest: &manifest,
+        file: text.file,
+    };
     let built = match asked.sources {
-        None => build_plain(reporter, asked, &manifest, (&[], &[]), text.file)?,
-        Some(directory) => build_in(reporter, asked, directory, &manifest, text.file)?,
+        None => build_plain(reporter, asked, given, (&[], &[]))?,
+        Some(directory) => build_in(reporter, asked, directory, given)?,
     };
     Ok(built.status)
 }
@@ -676,12 +722,16 @@ pub fn build_scanned(
         ..asked
     };
     let manifest = manifest_of(reporter, asked.manifest, &scanned.text)?;
-    let text = TextFile {
-        identity: file,
-        stamp: None,
+    let given = Given {
+        text: &scanned.text,
+        manifest: &manifest,
+        file: TextFile {
+            identity: file,
+            stamp: None,
+        },
     };
     let found = (scanned.directories.as_slice(), scanned.watched.as_slice());
-    let built = build_plain(reporter, asked, &manifest, found, text)?;
+    let built = build_plain(reporter, asked, given, found)?;
     contents::explain(reporter, asked, &manifest, &built);
     Ok(built.status)
 }

@@ -1,7 +1,7 @@
 //! The files that an image is made of, and what is reported if they change or cannot be read.
 ghost use Rattle.std.specs.Prelude.{◌≡◌, map, option_map};
+ghost use Rattle.build_commands.specs.Sources.{opened_as};
 ghost use Rattle.manifest.specs.Lines.{sources_of};
-ghost use Rattle.romtool.specs.Sources.{opened_as};
 
 use crate::origin::Origin;
 use crate::reading::{self, TextFile};

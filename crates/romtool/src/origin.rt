@@ -1,4 +1,7 @@
 //! Where the sources of an image are named.
+ghost use Rattle.std.specs.Prelude.{◌≡◌, Ok};
+ghost use Rattle.manifest.specs.Grammar.{manifest_of};
+
 use crate::watched::Watched;
 use manifest::Manifest;
 use sentences::plan_line::line_of_source;
@@ -7,6 +10,8 @@ use sentences::plan_line::line_of_source;
 #[derive(Clone, Copy)]
 pub struct Origin<'a> {
     pub name: &'a str,
+    /// The manifest's text.
+    pub text: &'a [u8],
     pub manifest: &'a Manifest,
     /// The names of the sources, if they differ from those in the manifest.
     pub joined: Option<&'a [Vec<u8>]>,
@@ -16,6 +21,7 @@ pub struct Origin<'a> {
     pub directories: &'a [String],
     /// The files besides that decided what the manifest says.
     pub watched: &'a [Watched],
+    ghost says: { manifest_of text.now ≡ Ok manifest.now },
 }
 
 impl<'a> Origin<'a> {

@@ -1,9 +1,10 @@
 //! The sources of an image: their names and states.
 ghost use Rattle.std.specs.Prelude.{◌≡◌, length, map, IfOk};
-ghost use Rattle.romtool.specs.Sources.{joined, needs_slash};
+ghost use Rattle.build_commands.specs.Sources.{joined};
 
 use crate::origin::Origin;
 use crate::reporter::Reporter;
+use build_commands::joined_name;
 use manifest::Name;
 use rom_commands::{Ending, Status};
 use sentences::reasons::NO_TEXT;
@@ -23,31 +24,6 @@ enum Missing {
     Refused(io::Error),
 }
 
-/// Whether a slash stands between a directory and a name in it.
-fn needs_slash(directory: &[u8]) -> bool
-    ensures { result ≡ needs_slash directory.now }
-{
-    match directory.last() {
-        Some(last) => *last != b'/',
-        None => false,
-    }
-}
-
-/// The name of a source in a directory. A name that begins with a slash stays.
-fn joined(rt: &HostRuntime, directory: &[u8], source: &[u8]) -> Result<Vec<u8>, AllocError>
-    ensures { IfOk result (λ name. name.items ≡ joined directory.now source.now) }
-{
-    let mut name = Vec::new(rt.alloc());
-    if source.first() != Some(&b'/') {
-        name.extend_from_slice(directory)?;
-        if needs_slash(directory) {
-            name.push(b'/')?;
-        }
-    }
-    name.extend_from_slice(source)?;
-    Ok(name)
-}
-
 /// Returns the names of the sources in a directory.
 pub fn joined_names(
     reporter: &Reporter<'_>,
@@ -59,7 +35,8 @@ pub fn joined_names(
 {
     let mut names = Vec::new(reporter.rt.alloc());
     for source in sources {
-        let Ok(name) = joined(reporter.rt, directory.as_bytes(), source.as_bytes()) else {
+        let Ok(name) = joined_name(reporter.rt.alloc(), directory.as_bytes(), source.as_bytes())
+        else {
             return Err(reporter.say(Ending::Memory));
         };
         if names.push(name).is_err() {

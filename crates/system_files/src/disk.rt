@@ -27,11 +27,6 @@ impl<'a> Disk<'a> {
     pub fn new(rt: &'a HostRuntime, progress: Progress<'a>) -> Disk<'a> {
         Disk { rt, progress }
     }
-
-    /// Shows no more progress.
-    pub fn end(&mut self) {
-        self.progress.end();
-    }
 }
 
 /// What the system's files hold is known by no proof. So these two functions are trusted: that
@@ -65,6 +60,11 @@ impl<'a> Opener for Disk<'a> {
         let n = open.file.read_at(buf, at)?;
         self.progress.add(n);
         Ok(n)
+    }
+
+    /// Shows no more progress.
+    fn end(&mut self) {
+        self.progress.end();
     }
 }
 

@@ -45,4 +45,4 @@ pub use owner::{STICKY, WRITABLE_BY_OTHERS};
 pub use parts::part_path;
 pub use progress::Progress;
 pub use stamp::{Identity, Stamp, has_changed, let_rest, open_unchanged, stamp_of};
-pub use target::{FillError, Target, are_one_file, is_part_of};
+pub use target::{FillError, KeptWith, Target, are_one_file, is_part_of};

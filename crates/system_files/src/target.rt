@@ -9,9 +9,12 @@ use crate::names::{behind_links, directory_of, name_in_directory};
 use crate::owner::{STICKY, WRITABLE_BY_OTHERS};
 use crate::parts::is_part_name;
 use crate::stamp::Identity;
-use atomic_file::{Begun, Fill, Unbegun, Unfinished, abandon, begin, keep};
-use image_build::{LastCheck, PlanImage, Unwritten, put};
-use image_stream::Sources;
+use atomic_file::{Begun, Unbegun, Unfinished, abandon, begin, keep};
+use build_commands::{
+    Closer, Companion, Ended, Job, Tools, Unbuilt, Unplaced, build_file, build_over,
+};
+use file_sources::Opener;
+use image_build::{LastCheck, Unwritten};
 use program_streams::{Held, Remembering};
 use rom_fields::{ByteWrite, Failed, Plain};
 use sentences::reasons::{HUNDRED_PARTS, MOUNTED, OUT_OF_ANOTHER, REPLACED};
@@ -215,6 +218,22 @@ pub fn is_part_of(rt: &HostRuntime, part: &str, whole: &str) -> bool {
     is_part_name(part, whole) && are_in_one_directory(rt, part, whole)
 }
 
+/// What closes a file that is not regular.
+#[derive(Drop)]
+struct StraightCloser<'a> {
+    rt: &'a HostRuntime,
+}
+
+impl Closer for StraightCloser<'_> {
+    type File = Writer;
+
+    type Error = KeepError;
+
+    fn close(&mut self, file: Writer) -> Result<(), KeepError> {
+        keep_straight(self.rt, file)
+    }
+}
+
 /// Synchronizes a file that is not regular, if that can be done, and closes it.
 fn keep_straight(rt: &HostRuntime, writer: Writer) -> Result<(), KeepError> {
     let (held, _) = writer.into_inner().into_parts();
@@ -248,25 +267,52 @@ impl Ready {
         }
     }
 
-    /// Fills the part with an image, and gives it its name.
-    fn put<S: Sources, K: LastCheck>(
+    /// Fills the part with the image of a job, gives it its name, and reports this.
+    fn build<O: Opener, K: LastCheck, C: Companion, W: ByteWrite>(
         self,
         rt: &HostRuntime,
         part: Writer,
-        image: &mut PlanImage<'_, S, K>,
-    ) -> Result<(), FillError<Unwritten<K::Error>>>
-        requires files { S.files image.old.sources ≡ length image.old.plan.now.sizes }
-        requires buffer { 4096 ≤ length image.old.buffer.now }
-        requires words { length image.old.buffer.now % 4 ≡ 0 }
+        job: &Job<'_, O>,
+        tools: Tools<O, K, C>,
+        buffer: &mut [u8],
+        out: &mut W,
+    ) -> Ended<O, K, Result<(), Unbuilt<FillError<Unwritten<K::Error>>, C::Error>>>
+        requires buffer { 4096 ≤ length buffer.old }
+        requires words { length buffer.old % 4 ≡ 0 }
     {
         let Ready { beside, name } = self;
         let mut system = System { rt, beside };
-        match put(&mut system, NAMES, Begun { name, part }, image) {
+        let Ended {
+            opener,
+            last,
+            unread,
+            result,
+        } = build_file(
+            &mut system,
+            NAMES,
+            Begun { name, part },
+            job,
+            tools,
+            buffer,
+            out,
+        );
+        let result = match result {
             Ok(_) => Ok(()),
-            Err(Unfinished::NotWritten(e, part)) => {
-                Err(FillError::NotWritten(e, part.into_inner().error()))
+            Err(Unbuilt::NotMade(Unfinished::NotWritten(e, part))) => {
+                let reason = part.into_inner().error();
+                Err(Unbuilt::NotMade(FillError::NotWritten(e, reason)))
             }
-            Err(Unfinished::NotKept) => Err(FillError::NotKept(reason(system.beside))),
+            Err(Unbuilt::NotMade(Unfinished::NotKept)) => {
+                Err(Unbuilt::NotMade(FillError::NotKept(reason(system.beside))))
+            }
+            Err(Unbuilt::NotKept(e)) => Err(Unbuilt::NotKept(e)),
+            Err(Unbuilt::NotReported) => Err(Unbuilt::NotReported),
+        };
+        Ended {
+            opener,
+            last,
+            unread,
+            result,
         }
     }
 
@@ -345,27 +391,41 @@ impl Target {
         }
     }
 
-    /// Fills it with an image, and gives it its name as `keep` does.
+    /// Fills it with the image of a job, gives it its name as `keep` does, keeps the companion, and
+    /// writes `ok LENGTH` to `out`.
     ///
     /// # Errors
     ///
-    /// Those of the image and of `keep`. The name then leads to what it led to before, except if
-    /// only the directory could not be synchronized. A file that is not regular has what was
-    /// written.
-    pub fn fill<S: Sources, K: LastCheck>(
+    /// Those of `build_commands::build_file`. A file that is not regular has what was written.
+    pub fn build<O: Opener, K: LastCheck, C: Companion, W: ByteWrite>(
         self,
         rt: &HostRuntime,
-        image: &mut PlanImage<'_, S, K>,
-    ) -> Result<(), FillError<Unwritten<K::Error>>>
-        requires files { S.files image.old.sources ≡ length image.old.plan.now.sizes }
-        requires buffer { 4096 ≤ length image.old.buffer.now }
-        requires words { length image.old.buffer.now % 4 ≡ 0 }
+        job: &Job<'_, O>,
+        tools: Tools<O, K, C>,
+        buffer: &mut [u8],
+        out: &mut W,
+    ) -> Ended<O, K, Result<(), Unbuilt<FillError<Unwritten<K::Error>>, C::Error>>>
+        requires buffer { 4096 ≤ length buffer.old }
+        requires words { length buffer.old % 4 ≡ 0 }
     {
         let Target { writer, ready, .. } = self;
         match (writer, ready) {
-            (Some(writer), Some(ready)) => ready.put(rt, writer, image),
-            (Some(writer), None) => fill_straight(rt, writer, image),
-            (None, _) => Err(FillError::NotKept(KeepError::Changed)),
+            (Some(writer), Some(ready)) => ready.build(rt, writer, job, tools, buffer, out),
+            (Some(writer), None) => build_straight(rt, writer, job, tools, buffer, out),
+            (None, _) => {
+                let Tools {
+                    opener,
+                    last,
+                    mut companion,
+                } = tools;
+                companion.give_up();
+                Ended {
+                    opener,
+                    last,
+                    unread: None,
+                    result: Err(Unbuilt::NotMade(FillError::NotKept(KeepError::Changed))),
+                }
+            }
         }
     }
 
@@ -378,22 +438,64 @@ impl Target {
     }
 }
 
-/// Fills a file that is not regular with an image, synchronizes it, if that can be done, and closes
-/// it.
-fn fill_straight<S: Sources, K: LastCheck>(
+/// Fills a file that is not regular with the image of a job, closes it, and reports this.
+fn build_straight<O: Opener, K: LastCheck, C: Companion, W: ByteWrite>(
     rt: &HostRuntime,
-    mut writer: Writer,
-    image: &mut PlanImage<'_, S, K>,
-) -> Result<(), FillError<Unwritten<K::Error>>>
-    requires files { S.files image.old.sources ≡ length image.old.plan.now.sizes }
-    requires buffer { 4096 ≤ length image.old.buffer.now }
-    requires words { length image.old.buffer.now % 4 ≡ 0 }
+    writer: Writer,
+    job: &Job<'_, O>,
+    tools: Tools<O, K, C>,
+    buffer: &mut [u8],
+    out: &mut W,
+) -> Ended<O, K, Result<(), Unbuilt<FillError<Unwritten<K::Error>>, C::Error>>>
+    requires buffer { 4096 ≤ length buffer.old }
+    requires words { length buffer.old % 4 ≡ 0 }
 {
-    if let Err(e) = image.fill(&mut writer) {
-        return Err(FillError::NotWritten(e, writer.into_inner().error()));
-    }
-    match keep_straight(rt, writer) {
+    let Ended {
+        opener,
+        last,
+        unread,
+        result,
+    } = build_over(&mut StraightCloser { rt }, writer, job, tools, buffer, out);
+    let result = match result {
         Ok(()) => Ok(()),
-        Err(e) => Err(FillError::NotKept(e)),
+        Err(Unbuilt::NotMade(Unplaced::NotWritten(e, writer))) => {
+            let reason = writer.into_inner().error();
+            Err(Unbuilt::NotMade(FillError::NotWritten(e, reason)))
+        }
+        Err(Unbuilt::NotMade(Unplaced::NotClosed(e))) => {
+            Err(Unbuilt::NotMade(FillError::NotKept(e)))
+        }
+        Err(Unbuilt::NotKept(e)) => Err(Unbuilt::NotKept(e)),
+        Err(Unbuilt::NotReported) => Err(Unbuilt::NotReported),
+    };
+    Ended {
+        opener,
+        last,
+        unread,
+        result,
+    }
+}
+
+/// A target that is kept with an image, or given up with it.
+#[derive(Drop)]
+pub struct KeptWith<'a> {
+    pub rt: &'a HostRuntime,
+    pub target: Option<Target>,
+}
+
+impl Companion for KeptWith<'_> {
+    type Error = KeepError;
+
+    fn keep(&mut self) -> Result<(), KeepError> {
+        match self.target.take() {
+            Some(target) => target.keep(self.rt),
+            None => Ok(()),
+        }
+    }
+
+    fn give_up(&mut self) {
+        if let Some(target) = self.target.take() {
+            target.abandon(self.rt);
+        }
     }
 }

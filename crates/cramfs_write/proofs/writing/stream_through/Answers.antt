@@ -27,8 +27,10 @@ returns g c = record {
       let e = c.new-form.ensures in
       let same = one_order (sym c.order_of-order.ensures ∙ is) in
       subst (λ (f : Form). Streams f crc_of
-      (state (g.S.Sources.known now) (g.S.Sources.files now) (g.S.Sources.reads now))
-      (state (g.S.Sources.known new) (g.S.Sources.files new) (g.S.Sources.reads new))
+      (state (g.S.Sources.known now) (g.S.Sources.files now) (g.S.Sources.names now)
+      (g.S.Sources.reads now))
+      (state (g.S.Sources.known new) (g.S.Sources.files new) (g.S.Sources.names new)
+      (g.S.Sources.reads new))
       (g.S.Sources.IsLog now) (g.S.Sources.IsLog new) (g.W.ByteWrite.output c.args.w.now)
       (g.W.ByteWrite.output c.stream_through.new.w) c.stream_through.result)
       (one_form (e.order ∙ same) e.plan) c.stream_through.ensures;

@@ -14,8 +14,10 @@ returns-in-Romfs g c = record {
       let now = c.args.sources.now in
       let new = c.stream_through.new.sources in
       subst (λ (f : Format). Streams (form_in f p) (stored_in f)
-      (state (g.S.Sources.known now) (g.S.Sources.files now) (g.S.Sources.reads now))
-      (state (g.S.Sources.known new) (g.S.Sources.files new) (g.S.Sources.reads new))
+      (state (g.S.Sources.known now) (g.S.Sources.files now) (g.S.Sources.names now)
+      (g.S.Sources.reads now))
+      (state (g.S.Sources.known new) (g.S.Sources.files new) (g.S.Sources.names new)
+      (g.S.Sources.reads new))
       (g.S.Sources.IsLog now) (g.S.Sources.IsLog new) (g.W.ByteWrite.output c.args.w.now)
       (g.W.ByteWrite.output c.stream_through.new.w) c.stream_through.result)
       (sym e) c.stream_through.ensures.streams;
@@ -49,8 +51,10 @@ returns-in-Cramfs g c =
           let now = c.args.sources.now in
           let new = c.stream_through-in-Cramfs.new.sources in
           subst (λ (f : Format). Streams (form_in f p) (stored_in f)
-          (state (g.S.Sources.known now) (g.S.Sources.files now) (g.S.Sources.reads now))
-          (state (g.S.Sources.known new) (g.S.Sources.files new) (g.S.Sources.reads new))
+          (state (g.S.Sources.known now) (g.S.Sources.files now) (g.S.Sources.names now)
+          (g.S.Sources.reads now))
+          (state (g.S.Sources.known new) (g.S.Sources.files new) (g.S.Sources.names new)
+          (g.S.Sources.reads new))
           (g.S.Sources.IsLog now) (g.S.Sources.IsLog new) (g.W.ByteWrite.output c.args.w.now)
           (g.W.ByteWrite.output c.stream_through-in-Cramfs.new.w) c.stream_through-in-Cramfs.result)
           (sym e) streams;

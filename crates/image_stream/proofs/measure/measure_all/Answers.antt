@@ -11,6 +11,7 @@ loop-file-preserved g c =
       room = c.measure.auto.buffer ∙ inv.room;
       known = c.measure.ensures.known ∙ inv.known;
       files = c.measure.ensures.files ∙ inv.files;
+      names = c.measure.ensures.names ∙ inv.names;
       grew = grew_join (g.S.Sources.IsLog c.args.sources.now) (g.S.Sources.IsLog c.loop-file.sources)
           (g.S.Sources.IsLog c.measure.new.sources) inv.grew c.in-Ok.ensures.grew;
       read = c.in-Ok.ensures.quiet ∙ inv.read;

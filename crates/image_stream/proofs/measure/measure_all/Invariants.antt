@@ -9,6 +9,7 @@ invariant-loop-file g l = record {
   room : length l.buffer ≡ length l.initial.buffer;
   known : g.S.Sources.known l.sources ≡ g.S.Sources.known l.initial.sources;
   files : g.S.Sources.files l.sources ≡ g.S.Sources.files l.initial.sources;
+  names : g.S.Sources.names l.sources ≡ g.S.Sources.names l.initial.sources;
   grew : Grew (g.S.Sources.IsLog l.initial.sources) (g.S.Sources.IsLog l.sources);
   read : g.S.Sources.reads l.sources ≡ g.S.Sources.reads l.initial.sources;
   sized : IfKnown (g.S.Sources.known l.initial.sources) (FrontSized (g.L.Segmented.form l.layout).sizes l.file);

@@ -16,6 +16,7 @@ loop-from-init g c =
       room = refl;
       known = refl;
       files = refl;
+      names = refl;
       read = refl;
       loan = refl;
       wrote = refl;
@@ -65,6 +66,7 @@ loop-from-preserved g c =
           ∙ omega (arith, length-drop c.min-n.result c.loop-from.buffer);
       known = c.piece.ensures.known ∙ inv.known;
       files = c.piece.ensures.files ∙ inv.files;
+      names = c.piece.ensures.names ∙ inv.names;
       read = c.in-Ok.ensures.quiet ∙ inv.read;
       loan = c.put.ensures.loan ∙ inv.loan;
       wrote = c.in-Ok-put.ensures.count ∙ inv.wrote;

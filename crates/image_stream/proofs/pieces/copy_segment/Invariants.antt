@@ -10,6 +10,7 @@ invariant-loop-from g l = record {
   room : length l.buffer ≡ length l.initial.buffer;
   known : g.S.Sources.known l.sources ≡ g.S.Sources.known l.initial.sources;
   files : g.S.Sources.files l.sources ≡ g.S.Sources.files l.initial.sources;
+  names : g.S.Sources.names l.sources ≡ g.S.Sources.names l.initial.sources;
   read : g.S.Sources.reads l.sources ≡ g.S.Sources.reads l.initial.sources;
   loan : g.K.Sink.loan l.sink ≡ g.K.Sink.loan l.initial.sink;
   wrote : (g.K.Sink.output l.sink).failures ≡ (g.K.Sink.output l.initial.sink).failures;

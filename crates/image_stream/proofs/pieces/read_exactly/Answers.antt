@@ -20,6 +20,7 @@ loop-done-preserved g c =
       room = room ∙ inv.room;
       known = c.read_at.ensures.known ∙ inv.known;
       files = c.read_at.ensures.files ∙ inv.files;
+      names = c.read_at.ensures.names ∙ inv.names;
       quiet = c.in-Ok.ensures.count ∙ inv.quiet;
       logged =
           let r = inv.logged in

@@ -10,6 +10,7 @@ invariant-loop-done g l = record {
   room : length l.buffer ≡ length l.initial.buffer;
   known : g.S.Sources.known l.sources ≡ g.S.Sources.known l.initial.sources;
   files : g.S.Sources.files l.sources ≡ g.S.Sources.files l.initial.sources;
+  names : g.S.Sources.names l.sources ≡ g.S.Sources.names l.initial.sources;
   quiet : g.S.Sources.reads l.sources ≡ g.S.Sources.reads l.initial.sources;
   logged : Read (λ answers xs. AreReads l.file l.at answers xs) (g.S.Sources.IsLog l.initial.sources)
       (g.S.Sources.IsLog l.sources) (take l.done l.buffer);

@@ -16,6 +16,7 @@ pub returns-in-Err : goal.returns-in-Err
 returns-in-Err g c = record {
   known = c.measure_all.ensures.known;
   files = c.measure_all.ensures.files;
+  names = c.measure_all.ensures.names;
   some = tt;
   sized = tt;
   whole = tt;
@@ -29,6 +30,7 @@ pub returns-in-Err-walk : goal.returns-in-Err-walk
 returns-in-Err-walk g c = record {
   known = c.walk.ensures.known ∙ c.measure_all.ensures.known;
   files = c.walk.ensures.files ∙ c.measure_all.ensures.files;
+  names = c.walk.ensures.names ∙ c.measure_all.ensures.names;
   some = tt;
   sized = tt;
   whole = tt;
@@ -46,6 +48,7 @@ pub returns-in-Err-write_head : goal.returns-in-Err-write_head
 returns-in-Err-write_head g c = record {
   known = c.walk.ensures.known ∙ c.measure_all.ensures.known;
   files = c.walk.ensures.files ∙ c.measure_all.ensures.files;
+  names = c.walk.ensures.names ∙ c.measure_all.ensures.names;
   some = tt;
   sized = tt;
   whole = tt;
@@ -64,6 +67,7 @@ pub returns-in-Err-sent : goal.returns-in-Err-sent
 returns-in-Err-sent g c = record {
   known = c.walk-sent.ensures.known ∙ c.walk.ensures.known ∙ c.measure_all.ensures.known;
   files = c.walk-sent.ensures.files ∙ c.walk.ensures.files ∙ c.measure_all.ensures.files;
+  names = c.walk-sent.ensures.names ∙ c.walk.ensures.names ∙ c.measure_all.ensures.names;
   some = tt;
   sized = tt;
   whole = tt;
@@ -98,6 +102,7 @@ pub returns-in-Err-flush : goal.returns-in-Err-flush
 returns-in-Err-flush g c = record {
   known = c.walk-sent.ensures.known ∙ c.walk.ensures.known ∙ c.measure_all.ensures.known;
   files = c.walk-sent.ensures.files ∙ c.walk.ensures.files ∙ c.measure_all.ensures.files;
+  names = c.walk-sent.ensures.names ∙ c.walk.ensures.names ∙ c.measure_all.ensures.names;
   some = tt;
   sized = tt;
   whole = tt;
@@ -117,6 +122,7 @@ pub returns-in-Err-confirm : goal.returns-in-Err-confirm
 returns-in-Err-confirm g c = record {
   known = c.walk-sent.ensures.known ∙ c.walk.ensures.known ∙ c.measure_all.ensures.known;
   files = c.walk-sent.ensures.files ∙ c.walk.ensures.files ∙ c.measure_all.ensures.files;
+  names = c.walk-sent.ensures.names ∙ c.walk.ensures.names ∙ c.measure_all.ensures.names;
   some = tt;
   sized = tt;
   whole = tt;
@@ -164,6 +170,7 @@ pub returns : goal.returns
 returns g c = record {
   known = c.walk-sent.ensures.known ∙ c.walk.ensures.known ∙ c.measure_all.ensures.known;
   files = c.walk-sent.ensures.files ∙ c.walk.ensures.files ∙ c.measure_all.ensures.files;
+  names = c.walk-sent.ensures.names ∙ c.walk.ensures.names ∙ c.measure_all.ensures.names;
   some = let f = g.L.Segmented.form c.args.layout.now in
       let two = c.in-Ok-sent.ensures.ok in
       let again = two.added (f.head 0) (c.add_head.ensures [] c.start-first.ensures) in

@@ -24,8 +24,10 @@ returns g c = record {
       let now = c.args.sources.now in
       let new = c.stream_through.new.sources in
       subst (λ (p : Planned). Streams (form_of p) balance_of
-      (state (g.S.Sources.known now) (g.S.Sources.files now) (g.S.Sources.reads now))
-      (state (g.S.Sources.known new) (g.S.Sources.files new) (g.S.Sources.reads new))
+      (state (g.S.Sources.known now) (g.S.Sources.files now) (g.S.Sources.names now)
+      (g.S.Sources.reads now))
+      (state (g.S.Sources.known new) (g.S.Sources.files new) (g.S.Sources.names new)
+      (g.S.Sources.reads new))
       (g.S.Sources.IsLog now) (g.S.Sources.IsLog new) (g.W.ByteWrite.output c.args.w.now)
       (g.W.ByteWrite.output c.stream_through.new.w) c.stream_through.result)
       c.new-form.ensures c.stream_through.ensures;

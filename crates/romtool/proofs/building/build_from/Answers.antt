@@ -1,5 +1,6 @@
-use Rattle.std.proofs.Common.{length, ap, ◌∙◌}
+use Rattle.std.proofs.Common.{length, ap, ◌∙◌, option_map}
 use Rattle.std.proofs.lemmas.List.{length-map}
+use Rattle.manifest.specs.Lines.{sources_of}
 use Rattle.romtool.proofs.Counts.{opened_count}
 use Rattle.romtool.proofs.building.build_from.Goals as goal
 
@@ -8,3 +9,10 @@ warnings_of-requires c =
     ap length c.deref-3.ensures.value ∙ ap length c.in_ok-sizes.ensures
     ∙ length-map c.deref.result.now (λ s. s.len) ∙ ap length c.deref.ensures.value ∙ c.in_ok-stamps.ensures
     ∙ opened_count (λ n. n.now) c.args.names.now _ _ c.requires
+
+pub write_files-requires-clause-count : goal.write_files-requires-clause-count
+write_files-requires-clause-count c =
+    ap length c.in_ok-plan.ensures.sizes ∙ ap length c.deref-2.ensures.value ∙ ap length c.in_ok-sizes.ensures
+    ∙ length-map c.deref.result.now (λ s. s.len) ∙ ap length c.deref.ensures.value ∙ c.in_ok-stamps.ensures
+    ∙ opened_count (λ n. n.now) c.args.names.now (option_map (λ d. d.now) c.args.asked.sources)
+    (sources_of c.args.origin.manifest.now.lines) c.requires

@@ -1,5 +1,5 @@
 use Rattle.std.proofs.Common.{◌≡◌, map, take}
-use Rattle.romtool.specs.Sources.{joined}
+use Rattle.build_commands.specs.Sources.{joined}
 use Rattle.romtool.proofs.sources.joined_names.Given as goal
 
 abbrev pub invariant-loop-source : goal.invariant-loop-source
