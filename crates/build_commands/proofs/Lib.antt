@@ -14,4 +14,4 @@ mod Ways
 pub mod Spelled
 mod Joined
 mod LineFlushed
-mod Making
+pub mod Making

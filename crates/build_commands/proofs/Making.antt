@@ -1,6 +1,6 @@
 -- A file that is the image of a plan, whose sources are files of these names.
 use Rattle.std.proofs.Common.{◌≡◌, ◌⊎◌, inl, inr, ℕ, List, [], ◌∷◌, ◌++◌, length, map, Option, Some, None, subst}
-use Rattle.std.proofs.Common.{sym, ap, ◌∙◌, ◌↔◌, refl, Result, Ok, Err, IfOk, IfErr, OnErr}
+use Rattle.std.proofs.Common.{sym, ap, ◌∙◌, ◌↔◌, refl, Result, Ok, Err, IfOk, IfErr, OnErr, option_map, true, ◌≢◌}
 use Rattle.std.proofs.lemmas.List.{length-map}
 use Rattle.atomic_file.specs.Log.{Event, EachMoment, Throughout}
 use Rattle.atomic_file.specs.Crashes.{Place, Content, Anything, Whole, entry, content}
@@ -15,6 +15,10 @@ use Rattle.manifest.specs.Grammar.{manifest_of}
 use Rattle.manifest.specs.Lines.{ManifestLines, sources_of}
 use Rattle.rom_fields.specs.Written.{Output}
 use Rattle.build_commands.specs.Sources.{joined, opened_as}
+use Rattle.command_line.specs.declared.request.Build.{Build}
+use Rattle.formats.specs.Format.{format_of}
+use Rattle.build_commands.specs.Limits.{most_of, padding_of}
+use Rattle.build_commands.specs.declared.limits.Foreseen.{Foreseen}
 use Rattle.build_commands.specs.Built.{IsBuilt, IsMade, IsOf, IsReported, IsUnbuilt, IsWithin}
 use Rattle.build_commands.specs.declared.command.Unbuilt.{Unbuilt}
 use Rattle.build_commands.specs.declared.command.Unbuilt.TheVariants.{NotMade, NotKept, NotReported}
@@ -127,37 +131,47 @@ made_somehow more (Ok a) (t, h) = (t, more t h)
 made_somehow more (Err e) h = tt
 
 -- the image of files that were read, by the logs of the opener before, after, and at the end
-pub made_by : {passed : Type 0} {padding : Padding} (held : Option (List ℕ → List ℕ)) {ns ns' : List (List ℕ)}
-    {known : Option (List (List ℕ))} {was is : List Answer → Type 0} (first last end : List Told → Type 0)
-    {p : Planned} {old : Option (List ℕ)} → known ≡ contents_of_all held ns
+pub made_by : {passed : Type 0} {padding : Padding} (asked : Build) (held : Option (List ℕ → List ℕ))
+    {ns ns' : List (List ℕ)} {known : Option (List (List ℕ))} {was is : List Answer → Type 0}
+    (first last end : List Told → Type 0)
+    {p : Planned} {old : Option (List ℕ)} → padding ≡ padding_of asked p.image_len → known ≡ contents_of_all held ns
     → ((log : List Answer) → was log ↔ IsLogOf ns first log) → ns' ≡ ns
     → ((log : List Answer) → is log ↔ IsLogOf ns' last log) → ((log : List Told) → last log → end log)
     → (new : Option (List ℕ)) → IsCheckedImage passed padding known was is p old new
-    → IsMade passed padding held first end ns p old new
-made_by {passed} {padding} held {ns} {ns'} {known} {was} {is} first last end {p} {old} same before names after ends
-    new image =
-    image_by padding known (contents_of_all held ns) was is (IsLogOf ns first) (IsLogOf ns end) p old new same
+    → IsMade passed asked held first end ns p old new
+made_by {passed} {padding} asked held {ns} {ns'} {known} {was} {is} first last end {p} {old} padded same before names
+    after ends new image =
+    subst (λ pad. IsCheckedImage passed pad (contents_of_all held ns) (IsLogOf ns first) (IsLogOf ns end) p old new)
+    padded
+    (image_by padding known (contents_of_all held ns) was is (IsLogOf ns first) (IsLogOf ns end) p old new same
     (λ log h. (before log).1 h)
     (λ log h. ends _ (subst (λ n. IsLogOf n last log) names ((after log).0 h)))
-    image
+    image)
 
 -- ---- a build that is done
 
-pub built_of : {A E U : Type 0} (text : List ℕ) (directory : Option (List ℕ)) (most : Option ℕ)
+pub built_of : {A E U : Type 0} (asked : Build) (text : List ℕ) (foreseen : Foreseen)
     (IsBegun : List Event → Type 0) (IsFile : List Event → List (List ℕ) → Type 0) (p : Planned) (out out' : Output)
     (m : ManifestLines) (ns : List (List ℕ)) → manifest_of text ≡ Ok m
-    → ns ≡ opened_as directory (sources_of m.lines) → IsPlanOf p.format m p.sizes p → IsWithin most p.image_len
+    → ns ≡ opened_as (option_map (λ d. d.now) asked.sources) (sources_of m.lines) → IsPlanOf p.format m p.sizes p
+    → p.format ≡ format_of asked.format → IsWithin (most_of asked) p.image_len
+    → (asked.strict ≡ true → foreseen.misread ≡ None) → (asked.xip ≡ true → foreseen.programs ≢ None)
     → (given : Result A E) (r : Result A U)
     → IfOk given (λ a. (old : List Event) → IsBegun old → IsFile old ns)
     → IfOk r (λ a. (given ≡ Ok a) × IsReported p.image_len out out')
-    → IfOk r (λ a. (old : List Event) → IsBegun old → IsBuilt text directory most (IsFile old) p out out')
-built_of text directory most IsBegun IsFile p out out' m ns says named planned within given (Err e) file told = tt
-built_of text directory most IsBegun IsFile p out out' m ns says named planned within given (Ok a) file (is, reported) =
+    → IfOk r (λ a. (old : List Event) → IsBegun old → IsBuilt asked text foreseen (IsFile old) p out out')
+built_of asked text foreseen IsBegun IsFile p out out' m ns says named planned format within strict in_place given
+    (Err e) file told = tt
+built_of asked text foreseen IsBegun IsFile p out out' m ns says named planned format within strict in_place given
+    (Ok a) file (is, reported) =
     λ old begun. record {
       lines = m;
       manifest = says;
       planned = planned;
+      format = format;
       within = within;
+      strict = strict;
+      in_place = in_place;
       file = subst (IsFile old) named
           (subst (λ r. IfOk r (λ a. (old : List Event) → IsBegun old → IsFile old ns)) is file old begun);
       reported = reported;

@@ -14,3 +14,6 @@ pub mod Rules
 pub mod Lines
 pub mod Sources
 pub mod Built
+pub mod Limits
+pub mod ScanEnds
+pub mod Extracts

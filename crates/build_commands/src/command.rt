@@ -1,50 +1,54 @@
 //! The command `build`: an image takes the place of a file, and this is reported.
-ghost use Rattle.std.specs.Prelude.{◌≡◌, ◌≤◌, ◌%◌, List, Ok, length, map, option_map, IfOk, IfErr};
-ghost use Rattle.std.specs.Prelude.{ℕ, Option, OnErr};
+ghost use Rattle.std.specs.Prelude.{◌≡◌, ◌≢◌, ◌≤◌, ◌%◌, List, Ok, None, length, map, option_map};
+ghost use Rattle.std.specs.Prelude.{ℕ, Option, IfOk, IfErr, OnErr, true};
 ghost use Rattle.atomic_file.specs.Log.{Event, Throughout};
 ghost use Rattle.atomic_file.specs.Moments.{IsNoPart, IsBegun, IsOldOrNew, IsReplaced, IsDurable};
 ghost use Rattle.atomic_file.specs.Moments.{IsKept};
 ghost use Rattle.build_commands.specs.Built.{IsBuilt, IsMade, IsUnbuilt, IsReported, IsWithin};
 ghost use Rattle.build_commands.specs.Built.{IsOf, IsOutputAfter};
+ghost use Rattle.build_commands.specs.Limits.{most_of};
 ghost use Rattle.build_commands.specs.Sources.{opened_as};
+ghost use Rattle.formats.specs.Format.{format_of};
 ghost use Rattle.image_build.specs.Images.{IsCheckedImage};
 ghost use Rattle.manifest.specs.Grammar.{manifest_of};
 ghost use Rattle.manifest.specs.Lines.{sources_of};
 ghost use Rattle.plan_types.specs.Plans.{IsPlanOf};
 
 use crate::building::print_built;
+use crate::limits::{Foreseen, padding_after};
 use atomic_file::{Begun, Directory, Durability, Fill, Names, Unfinished};
+use command_line::Build;
 use file_sources::{FileSources, Opener};
-use image_build::{LastCheck, Padding, PlanImage, Unwritten, put};
+use image_build::{LastCheck, PlanImage, Unwritten, put};
 use image_stream::Sources;
 use manifest::Manifest;
 use plan_types::Plan;
 use rom_fields::{ByteWrite, Failed};
 use std::io;
 
-/// What is built: the plan of a manifest's text, and the files that are its sources.
+/// What is built: the plan of a manifest's text, and the files that are its sources. The image is
+/// as it is asked for: it has the format, is not too long, and passed what may refuse it.
 #[derive(Drop)]
 pub struct Job<'a, O: Opener> {
+    pub asked: Build<'a>,
     /// The text of the manifest, and what it says.
     pub text: &'a [u8],
     pub manifest: &'a Manifest,
-    /// The directory in which the sources are, if one is given.
-    pub directory: Option<&'a str>,
     /// The names by which the sources are opened, in the manifest's order, and the states that the
     /// files have to have then.
     pub names: &'a [O::Name],
     pub states: &'a [O::State],
     pub plan: &'a Plan,
-    /// The most bytes that the image may have, if there is a limit.
-    pub most: Option<u64>,
-    /// The bytes that follow the image.
-    pub padding: Padding,
+    pub foreseen: Foreseen,
     ghost says: { manifest_of text.now ≡ Ok manifest.now },
-    ghost named: { map O.spelled names.now ≡ opened_as (option_map (λ d. d.now) directory)
+    ghost named: { map O.spelled names.now ≡ opened_as (option_map (λ d. d.now) asked.sources)
         (sources_of manifest.now.lines) },
     ghost planned: { IsPlanOf plan.now.format manifest.now plan.now.sizes plan.now },
     ghost count: { length plan.now.sizes ≡ length (sources_of manifest.now.lines) },
-    ghost within: { IsWithin most plan.now.image_len },
+    ghost format: { plan.now.format ≡ format_of asked.format },
+    ghost within: { IsWithin (most_of asked) plan.now.image_len },
+    ghost strict: { asked.strict ≡ true → foreseen.misread ≡ None },
+    ghost in_place: { asked.xip ≡ true → foreseen.programs ≢ None },
 }
 
 /// What is written beside an image, for example a rule for make.
@@ -161,26 +165,26 @@ fn replaced_by<D: Directory, O: Opener, K: LastCheck>(
     requires buffer { 4096 ≤ length buffer.old }
     requires words { length buffer.old % 4 ≡ 0 }
     ensures any_moment { (old : List Event) → IsBegun names begun.name old (D.log directory.old)
-        → Throughout (IsOldOrNew names (IsMade (K.passed result.last) job.now.padding
+        → Throughout (IsOldOrNew names (IsMade (K.passed result.last) job.now.asked
         (O.contents opener) (O.IsLog opener) (O.IsLog result.opener)
         (map O.spelled job.now.names.now) job.now.plan.now D.fresh) old) (D.log directory.old)
         (D.log directory.new) }
     ensures ok { IfOk result.result (λ d. (old : List Event)
         → IsBegun names begun.name old (D.log directory.old)
-        → IsReplaced names (IsMade (K.passed result.last) job.now.padding (O.contents opener)
+        → IsReplaced names (IsMade (K.passed result.last) job.now.asked (O.contents opener)
         (O.IsLog opener) (O.IsLog result.opener) (map O.spelled job.now.names.now)
         job.now.plan.now D.fresh) old (D.log directory.new)) }
     ensures durable { IfOk result.result (λ d. IsDurable d (D.log directory.new)) }
     ensures err { OnErr result.result ((old : List Event)
         → IsBegun names begun.name old (D.log directory.old)
-        → IsKept names (IsMade (K.passed result.last) job.now.padding (O.contents opener)
+        → IsKept names (IsMade (K.passed result.last) job.now.asked (O.contents opener)
         (O.IsLog opener) (O.IsLog result.opener) (map O.spelled job.now.names.now)
         job.now.plan.now D.fresh) old (D.log directory.new)) }
 {
     let mut image = PlanImage {
         plan: job.plan,
         sources: FileSources::new(opener, job.names, job.states),
-        padding: job.padding,
+        padding: padding_after(&job.asked, job.plan),
         last,
         buffer,
     };
@@ -229,21 +233,21 @@ pub fn build_file<D: Directory, O: Opener, K: LastCheck, C: Companion, W: ByteWr
     requires buffer { 4096 ≤ length buffer.old }
     requires words { length buffer.old % 4 ≡ 0 }
     ensures any_moment { (old : List Event) → IsBegun names begun.name old (D.log directory.old)
-        → Throughout (IsOldOrNew names (IsMade (K.passed result.last) job.now.padding
+        → Throughout (IsOldOrNew names (IsMade (K.passed result.last) job.now.asked
         (O.contents tools.opener) (O.IsLog tools.opener) (O.IsLog result.opener)
         (map O.spelled job.now.names.now) job.now.plan.now D.fresh) old) (D.log directory.old)
         (D.log directory.new) }
     ensures ok { IfOk result.result (λ d. (old : List Event)
         → IsBegun names begun.name old (D.log directory.old)
-        → IsBuilt job.now.text.now (option_map (λ d. d.now) job.now.directory) job.now.most
-        (λ opened. IsReplaced names (IsMade (K.passed result.last) job.now.padding
+        → IsBuilt job.now.asked job.now.text.now job.now.foreseen
+        (λ opened. IsReplaced names (IsMade (K.passed result.last) job.now.asked
         (O.contents tools.opener) (O.IsLog tools.opener) (O.IsLog result.opener)
         opened job.now.plan.now D.fresh) old (D.log directory.new)) job.now.plan.now
         (W.output out.old) (W.output out.new)) }
     ensures durable { IfOk result.result (λ d. IsDurable d (D.log directory.new)) }
     ensures err { IfErr result.result (λ e. (old : List Event)
         → IsBegun names begun.name old (D.log directory.old)
-        → IsUnbuilt names (IsMade (K.passed result.last) job.now.padding
+        → IsUnbuilt names (IsMade (K.passed result.last) job.now.asked
         (O.contents tools.opener) (O.IsLog tools.opener) (O.IsLog result.opener)
         (map O.spelled job.now.names.now) job.now.plan.now D.fresh) old (D.log directory.new) e) }
     ensures output { IfErr result.result (IsOutputAfter job.now.plan.now.image_len
@@ -305,14 +309,14 @@ fn written_over<F: Closer, O: Opener, K: LastCheck>(
     requires buffer { 4096 ≤ length buffer.old }
     requires words { length buffer.old % 4 ≡ 0 }
     ensures ok { IfOk result.result (λ _. (new : Option (List ℕ))
-        × IsMade (K.passed result.last) job.now.padding (O.contents opener) (O.IsLog opener)
+        × IsMade (K.passed result.last) job.now.asked (O.contents opener) (O.IsLog opener)
         (O.IsLog result.opener) (map O.spelled job.now.names.now) job.now.plan.now
         (F.File.output file).contents new) }
 {
     let mut image = PlanImage {
         plan: job.plan,
         sources: FileSources::new(opener, job.names, job.states),
-        padding: job.padding,
+        padding: padding_after(&job.asked, job.plan),
         last,
         buffer,
     };
@@ -355,9 +359,9 @@ pub fn build_over<F: Closer, O: Opener, K: LastCheck, C: Companion, W: ByteWrite
 ) -> Ended<O, K, Result<(), Unbuilt<Unplaced<Unwritten<K::Error>, F::File, F::Error>, C::Error>>>
     requires buffer { 4096 ≤ length buffer.old }
     requires words { length buffer.old % 4 ≡ 0 }
-    ensures ok { IfOk result.result (λ _. IsBuilt job.now.text.now
-        (option_map (λ d. d.now) job.now.directory) job.now.most
-        (λ opened. (new : Option (List ℕ)) × IsMade (K.passed result.last) job.now.padding
+    ensures ok { IfOk result.result (λ _. IsBuilt job.now.asked job.now.text.now
+        job.now.foreseen
+        (λ opened. (new : Option (List ℕ)) × IsMade (K.passed result.last) job.now.asked
         (O.contents tools.opener) (O.IsLog tools.opener) (O.IsLog result.opener)
         opened job.now.plan.now (F.File.output file).contents new) job.now.plan.now
         (W.output out.old) (W.output out.new)) }

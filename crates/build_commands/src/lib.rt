@@ -26,14 +26,17 @@
 mod building;
 pub mod changes;
 mod command;
+mod extract;
 pub mod inventory;
 pub mod laws;
+mod limits;
 mod line;
 mod nearest;
 mod part;
 mod printing;
 mod rule;
 mod rule_name;
+mod scan;
 mod scanning;
 mod sources;
 mod warnings;
@@ -44,10 +47,13 @@ pub use building::{
 pub use command::{
     Closer, Companion, Ended, Job, Tools, Unbuilt, Unplaced, build_file, build_over,
 };
+pub use extract::{Description, Filled, Unextracted, extract_image};
+pub use limits::{Foreseen, Misread, most_bytes};
 pub use line::{print_line, put_line, write_line};
 pub use part::Part;
 pub use printing::{PrintError, print_walked};
 pub use rule::Rule;
+pub use scan::{Recheck, Unscanned, scan_directory};
 pub use scanning::{Found, put_scan};
 pub use sources::joined_name;
 pub use warnings::warning_name;

@@ -1,13 +1,13 @@
 -- An image beside what a reader has, part by part.
 use Rattle.std.proofs.Common.{◌≡◌, ℕ, ◌+◌, ◌-◌, ◌<◌, ◌≤◌, List, ◌++◌, length, take, drop, Option, Some, None, IfSome}
-use Rattle.std.proofs.Common.{sym, ap, ◌∙◌, subst, arith, length-take, length-append, min}
+use Rattle.std.proofs.Common.{Result, Ok, Err, IfOk, sym, ap, ◌∙◌, subst, arith, length-take, length-append, min}
 use Rattle.std.proofs.Math.Seq.{take-add, take-append-add}
 use Rattle.std.proofs.Math.Seq.{drop-append_seam}
 use Rattle.std.proofs.lemmas.Option.{none-some, same_Some}
 use Rattle.std.proofs.lemmas.List.{take_rest, take-append-drop, drop-drop}
 use Rattle.std.specs.Io.KnownBytes.{Consumes}
 use Rattle.std.proofs.KnownBytes.{Consumes-trans}
-use Rattle.image_compare.specs.Differences.{DiffersAt, StepPrints, Passes}
+use Rattle.image_compare.specs.Differences.{DiffersAt, StepPrints, Passes, Begins, Compares}
 use Rattle.image_compare.specs.declared.dump.Step.{Step}
 use Rattle.image_compare.specs.declared.dump.Step.TheVariants.{Same, Differs}
 use Rattle.image_compare.proofs.ComparedBytes.{behind_same}
@@ -75,3 +75,23 @@ passes_more (Some xs) (Some ys) (Some zs) k n bs e p r =
     let q : drop k xs ≡ bs ++ zs = sym (same_Some ys (drop k xs) p') ∙ r' in
     ap Some (sym (sym (drop-drop n k xs) ∙ (ap (drop n) q
     ∙ (ap (λ (v : ℕ). drop v (bs ++ zs)) (sym e) ∙ drop-append_seam bs zs))))
+
+-- bytes that are read from a place before an offset on, of which those before it are passed over
+from_offset : (stored rest rest' : Option (List ℕ)) (before offset : ℕ) (image : List ℕ) (r : Option ℕ)
+    → Begins stored rest before offset → Passes rest rest' before → IfSome rest' (λ xs. Compares image xs r)
+    → IfSome stored (λ xs. Compares image (drop offset xs) r)
+from_offset None rest rest' before offset image r begins passes compares = tt
+from_offset (Some xs) rest rest' before offset image r (at, is, sum) passes compares =
+    let behind : rest' ≡ Some (drop before (drop at xs)) = subst (λ o. Passes o rest' before) is passes in
+    let found : Compares image (drop before (drop at xs)) r =
+    subst (λ o. IfSome o (λ ys. Compares image ys r)) behind compares
+    in
+    subst (λ ys. Compares image ys r) (drop-drop before at xs ∙ ap (λ n. drop n xs) sum) found
+
+pub told_from_offset : {E : Type 0} (stored rest rest' : Option (List ℕ)) (before offset : ℕ) (image : List ℕ)
+    (found : Result (Option ℕ) E) → Begins stored rest before offset → Passes rest rest' before
+    → IfOk found (λ r. IfSome rest' (λ xs. Compares image xs r))
+    → IfOk found (λ r. IfSome stored (λ xs. Compares image (drop offset xs) r))
+told_from_offset stored rest rest' before offset image (Ok r) begins passes compares =
+    from_offset stored rest rest' before offset image r begins passes compares
+told_from_offset stored rest rest' before offset image (Err e) begins passes compares = tt

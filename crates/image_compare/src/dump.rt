@@ -1,9 +1,10 @@
 //! Compares an image with the bytes of a dump, which are read piece by piece.
 ghost use Rattle.std.specs.Prelude.{◌≡◌, ◌<◌, ◌≤◌, ◌++◌, length, codes, decimal};
-ghost use Rattle.std.specs.Prelude.{IfOk, IfSome, OnOk};
+ghost use Rattle.std.specs.Prelude.{ℕ, List, Option, None, drop, IfOk, IfSome, OnOk};
 ghost use Rattle.rom_fields.specs.Failures.{Counts};
 ghost use Rattle.rom_fields.specs.Written.{WritesText, Puts, sink};
-ghost use Rattle.image_compare.specs.Differences.{Compares, Passes, StepPrints, verdict_text};
+ghost use Rattle.image_compare.specs.Differences.{Begins, Compares, Passes, StepPrints};
+ghost use Rattle.image_compare.specs.Differences.{verdict_text};
 
 use crate::comparing::first_difference;
 use rom_fields::{ByteWrite, Failed, put, put_long_decimal};
@@ -79,6 +80,38 @@ pub fn pass_over<R: Read>(dump: &mut R, count: u64) -> io::Result<()>
         left -= passed as u64;
     }
     Ok(())
+}
+
+/// A dump of a flash, for example a file.
+pub trait Dump {
+    /// What reads its bytes.
+    type Reader: Read + Drop;
+
+    // All of its bytes, if they are known.
+    ghost stored: { Self → Option (List ℕ) } = { λ _. None };
+
+    /// Returns what reads the bytes from a place at or before `offset` on, and the number of bytes
+    /// that are between the two. It is 0 if the dump can be read at any place.
+    ///
+    /// # Errors
+    ///
+    /// Those of the dump.
+    fn open(self, offset: u64) -> io::Result<(Self::Reader, u64)>
+        ensures { IfOk result (λ r. Begins (stored self) (Self.Reader.remaining r.0) r.1 offset) };
+}
+
+/// Compares an image with the bytes of a dump from `offset` on, as `compare` does.
+///
+/// # Errors
+///
+/// Those of the dump and of its reader.
+pub fn compare_from<D: Dump>(image: &[u8], dump: D, offset: u64) -> io::Result<Option<usize>>
+    ensures { IfOk result (λ r. IfSome (D.stored dump)
+        (λ xs. Compares image.now (drop offset xs) r)) }
+{
+    let (mut reader, before) = dump.open(offset)?;
+    pass_over(&mut reader, before)?;
+    compare(image, &mut reader)
 }
 
 /// Puts a word, a number and a line feed.

@@ -33,7 +33,7 @@ mod steps;
 pub use comparing::first_difference;
 pub use difference::{DiffError, write_diff};
 pub use digests::{DigestError, write_digests};
-pub use dump::{compare, pass_over, write_verdict};
+pub use dump::{Dump, compare, compare_from, pass_over, write_verdict};
 pub use hashing::file_digest;
 pub use holder::find_holder;
 pub use line::write_image_digest;

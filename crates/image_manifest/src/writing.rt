@@ -1,4 +1,5 @@
 //! The writing of an image's manifest.
+ghost use Rattle.std.specs.Prelude.{◌≡◌};
 ghost use Rattle.manifest.specs.Printed.{lines_text, manifest_text};
 ghost use Rattle.rom_fields.specs.Failures.{Counts};
 ghost use Rattle.rom_fields.specs.Written.{Puts, WritesText, sink};
@@ -53,6 +54,7 @@ pub fn write_manifest<'a, T: TreeImage<'a>, W: ByteWrite>(
     ensures text { WritesText (W.output w.old).contents (W.output w.new).contents result
         (manifest_text volume.now (member_lines (T.image image.now) rules.entry)) }
     ensures count { Counts (W.output w.old).failures (W.output w.new).failures result }
+    ensures unflushed { (W.output w.new).flushes ≡ (W.output w.old).flushes }
 {
     let mut failed = false;
     put_volume(w, &mut failed, volume);

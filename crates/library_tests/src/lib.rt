@@ -14,6 +14,7 @@
 
 mod cached;
 mod checked;
+mod dumps;
 mod elf;
 mod errors;
 mod examples;

@@ -1,11 +1,13 @@
-//! A walk by a lister that reports its tree: the directory `t` has the file `z` and the
+//! A walk and a scan by a lister that reports its tree: the directory `t` has the file `z` and the
 //! directory `a` in it, and this has the file `b`.
 ghost use Rattle.std.specs.Prelude.{◌≡◌, ◌∷◌, [], true, false, codes, string_bytes, IfOk};
 ghost use Rattle.std.specs.Prelude.{IsPermutation};
 ghost use Rattle.directory_walk.specs.Trees.{name};
 ghost use Rattle.directory_walk.specs.Views.{listed_names, names_of};
 
+use build_commands::{Recheck, scan_directory};
 use directory_walk::{Directory, Listed, Lister, WalkError, Walked, walk};
+use rom_fields::Plain;
 use std::alloc::{AllocError, Global};
 use std::test::Fail;
 
@@ -16,42 +18,42 @@ struct Fixed {
 }
 
 /// The entries of `t`.
-fn outer(alloc: Global) -> Result<Vec<Listed<u8, ()>>, AllocError>
+fn outer(alloc: Global) -> Result<Vec<Listed<bool, ()>>, AllocError>
     ensures { IfOk result (λ v. listed_names v.items
-        ≡ name (codes "t/z") 0 false ∷ name (codes "t/a") 1 true ∷ []) }
+        ≡ name (codes "t/z") false false ∷ name (codes "t/a") true true ∷ []) }
 {
     let mut listed = Vec::new(alloc);
     listed.push(Listed {
         path: String::from_str(alloc, "t/z")?,
-        known: 0,
+        known: false,
         state: None,
     })?;
     listed.push(Listed {
         path: String::from_str(alloc, "t/a")?,
-        known: 1,
+        known: true,
         state: Some(()),
     })?;
     Ok(listed)
 }
 
 /// The entries of `t/a`.
-fn inner(alloc: Global) -> Result<Vec<Listed<u8, ()>>, AllocError>
-    ensures { IfOk result (λ v. listed_names v.items ≡ name (codes "t/a/b") 2 false ∷ []) }
+fn inner(alloc: Global) -> Result<Vec<Listed<bool, ()>>, AllocError>
+    ensures { IfOk result (λ v. listed_names v.items ≡ name (codes "t/a/b") false false ∷ []) }
 {
     let mut listed = Vec::new(alloc);
     listed.push(Listed {
         path: String::from_str(alloc, "t/a/b")?,
-        known: 2,
+        known: false,
         state: None,
     })?;
     Ok(listed)
 }
 
 impl Lister for Fixed {
-    ghost use Rattle.std.specs.Prelude.{Some, ⊤, codes};
+    ghost use Rattle.std.specs.Prelude.{Some, ⊤, codes, false, true};
     ghost use Rattle.directory_walk.specs.Trees.{Nil, Leaf, Branch};
 
-    type Known = u8;
+    type Known = bool;
 
     type State = ();
 
@@ -59,13 +61,13 @@ impl Lister for Fixed {
 
     ghost tree = { λ _. Some (record {
       path = codes "t";
-      tree = Leaf (codes "z") 0
-          (Branch (codes "a") 1 (Leaf (codes "b") 2 Nil) Nil);
+      tree = Leaf (codes "z") false
+          (Branch (codes "a") true (Leaf (codes "b") false Nil) Nil);
     }) };
 
     ghost refuses = { λ _ _ _. ⊤ };
 
-    fn list(&mut self, directory: &Directory<()>) -> Result<Vec<Listed<u8, ()>>, AllocError> {
+    fn list(&mut self, directory: &Directory<()>) -> Result<Vec<Listed<bool, ()>>, AllocError> {
         if directory.path.as_str() == "t" {
             outer(self.alloc)
         } else {
@@ -75,10 +77,10 @@ impl Lister for Fixed {
 }
 
 /// The walk of `t`, which finds exactly these entries.
-fn walked(alloc: Global, top: String) -> Result<Walked<u8, ()>, WalkError<AllocError>>
+fn walked(alloc: Global, top: String) -> Result<Walked<bool, ()>, WalkError<AllocError>>
     requires { string_bytes top ≡ codes "t" }
-    ensures { IfOk result (λ w. IsPermutation (name (codes "t/z") 0 false
-        ∷ name (codes "t/a") 1 true ∷ name (codes "t/a/b") 2 false ∷ [])
+    ensures { IfOk result (λ w. IsPermutation (name (codes "t/z") false false
+        ∷ name (codes "t/a") true true ∷ name (codes "t/a/b") false false ∷ [])
         (names_of w.entries.items)) }
 {
     let top = Directory {
@@ -86,6 +88,61 @@ fn walked(alloc: Global, top: String) -> Result<Walked<u8, ()>, WalkError<AllocE
         state: (),
     };
     walk(alloc, &mut Fixed { alloc }, top)
+}
+
+/// Whether the directories stayed.
+#[derive(Drop)]
+struct Stayed(bool);
+
+impl Recheck for Stayed {
+    ghost use Rattle.std.specs.Prelude.{⊤};
+
+    type State = ();
+
+    type Error = ();
+
+    ghost as_found = { λ _ _. ⊤ };
+
+    fn check(&mut self, directories: &[Directory<()>]) -> Result<(), ()> {
+        if self.0 && directories.len() == 2 {
+            Ok(())
+        } else {
+            Err(())
+        }
+    }
+}
+
+/// What a scan of `t` prints, and whether it is done.
+fn printed(alloc: Global, top: String, stayed: bool) -> (Vec<u8>, bool)
+    requires { string_bytes top ≡ codes "t" }
+{
+    let top = Directory {
+        path: top,
+        state: (),
+    };
+    let mut out = Plain::new(Vec::new(alloc));
+    let done = scan_directory(
+        alloc,
+        &mut Fixed { alloc },
+        top,
+        &mut Stayed(stayed),
+        &mut out,
+    );
+    (out.into_inner(), done.is_ok())
+}
+
+/// The manifest of `t`.
+const TEXT: &[u8] = b"dir /a 0755 0 0\nfile /a/b 0644 0 0 4 t/a/b\nfile /z 0644 0 0 4 t/z\n";
+
+#[test]
+fn scan_of_a_tree_that_is_known(rt: HostRuntime) -> Result<(), Fail> {
+    for (stayed, text) in [(true, TEXT), (false, b"".as_slice())] {
+        let top = String::from_str(rt.alloc(), "t")?;
+        let (out, done) = printed(rt.alloc(), top, stayed);
+        assert!(rt; done == stayed);
+        assert!(rt; out.as_slice() == text);
+    }
+    Ok(())
 }
 
 /// Its entries, in the order of the bytes of their paths.

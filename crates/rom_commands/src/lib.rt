@@ -53,4 +53,4 @@ pub use serving::{Serving, refuse, serve_checked, serve_image, serve_on, serve_u
 pub use several::{refuse_in, serve_images, serve_several_on};
 pub use shown::{has_addresses, show, takes_fault};
 pub use status::Status;
-pub use verdicts::print_verdict;
+pub use verdicts::{Verified, print_verdict, verify_dump};

@@ -55,9 +55,9 @@ pub(crate) fn closed<X: Write, E: ByteWrite>(
     ending
 }
 
-/// Prints to `out` what `check`, `list`, `map`, `linux`, `xip` or `info` says of an image, and
-/// flushes `out`. Prints to `err` if memory was refused or a write failed. The line of a fault goes
-/// to `out` if `takes_fault` says so, and to `err` otherwise.
+/// Prints to `out` what is asked of an image, and flushes `out`. Prints to `err` if memory was
+/// refused or a write failed. The line of a fault goes to `out` if `takes_fault` says so, and to
+/// `err` otherwise.
 ///
 /// Returns `Done` if the image is valid; `Warned` if it does not fit, or has something that Linux
 /// misreads or a program that Linux does not execute in place, and that was asked for; `Fault` with

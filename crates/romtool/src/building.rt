@@ -1,13 +1,13 @@
 //! Builds an image from a manifest and files.
-ghost use Rattle.std.specs.Prelude.{◌≡◌, ◌≤◌, ◌%◌, length, map, IfOk, IfSome, None, Ok, OnOk};
-ghost use Rattle.std.specs.Prelude.{Some};
+ghost use Rattle.std.specs.Prelude.{◌≡◌, ◌≢◌, ◌≤◌, ◌%◌, length, map, option_map, IfOk, IfSome};
+ghost use Rattle.std.specs.Prelude.{None, Ok, OnOk, Some, true};
 ghost use Rattle.build_commands.specs.Built.{IsWithin};
-ghost use Rattle.manifest.specs.Grammar.{manifest_of};
-ghost use Rattle.std.specs.Prelude.{option_map};
-ghost use Rattle.manifest.specs.Lines.{sources_of};
-ghost use Rattle.formats.specs.Format.{format_of};
-ghost use Rattle.plan_types.specs.Plans.{IsPlanOf};
+ghost use Rattle.build_commands.specs.Limits.{most_of};
 ghost use Rattle.build_commands.specs.Sources.{opened_as};
+ghost use Rattle.formats.specs.Format.{format_of};
+ghost use Rattle.manifest.specs.Grammar.{manifest_of};
+ghost use Rattle.manifest.specs.Lines.{sources_of};
+ghost use Rattle.plan_types.specs.Plans.{IsPlanOf};
 
 use crate::files::{Files, INPUT, Kept, kept_names, kept_states, say_not_taken};
 use crate::foreseen::{Warnings, foreseen};
@@ -20,11 +20,11 @@ use crate::sources::{joined_names, names_of, sizes_of, stamps_of, texts_of};
 use crate::watched::Watched;
 use crate::{bad_lines, contents, depfile, explained, reading, warned};
 use build_commands::{
-    Ended, Job, Rule, Tools, Unbuilt, print_bad_manifest, print_misfit, print_size, print_strict,
-    print_xip,
+    Ended, Foreseen, Job, Misread, Rule, Tools, Unbuilt, most_bytes, print_bad_manifest,
+    print_misfit, print_size, print_strict, print_xip,
 };
 use command_line::Build;
-use image_build::{Padding, Unwritten};
+use image_build::Unwritten;
 use layout_plan::{PlanError, plan};
 use manifest::{Manifest, ManifestError, parse};
 use plan_types::{Format, Plan};
@@ -94,6 +94,7 @@ fn planned(
     requires { length sizes.now ≡ length (sources_of origin.manifest.now.lines) }
     ensures plan { IfOk result (IsPlanOf (format_of format) origin.entry.manifest.now sizes.now) }
     ensures sizes { IfOk result (λ plan. plan.sizes ≡ sizes.now) }
+    ensures format { IfOk result (λ plan. plan.format ≡ format_of format) }
     ensures own { IfOk result (λ plan. IsPlanOf plan.format origin.entry.manifest.now plan.sizes
         plan) }
 {
@@ -189,33 +190,27 @@ fn target_of(
 /// Writes the rule of a build, if one is asked for. The written part does not have its name yet.
 fn rule_of(
     reporter: &Reporter<'_>,
-    asked: Build<'_>,
     files: Files<'_>,
     inputs: Inputs<'_>,
     image: &Target,
 ) -> Result<Option<Target>, Status> {
-    let Some(name) = asked.depfile else {
+    let Some(name) = files.asked.depfile else {
         return Ok(None);
     };
     check_output(reporter, name, inputs)?;
-    let target = match inputs.identities(reporter.rt, Some(asked.out)) {
+    let target = match inputs.identities(reporter.rt, Some(files.asked.out)) {
         Ok(inputs) => Target::open(reporter.rt, name, inputs),
         Err(e) => Err(e),
     };
     match target {
-        Ok(target) => Ok(Some(depfile::written(
-            reporter,
-            name,
-            rule(asked, files),
-            target,
-            image,
-        )?)),
+        Ok(target) => Ok(Some(depfile::written(reporter, name, rule(files), target, image)?)),
         Err(e) => Err(reporter.refused(name.as_bytes(), &e)),
     }
 }
 
 /// The rule of a build.
-fn rule<'a>(asked: Build<'a>, files: Files<'a>) -> Rule<'a> {
+fn rule(files: Files<'_>) -> Rule<'_> {
+    let asked = files.asked;
     Rule {
         out: asked.out,
         manifest: if asked.manifest == INPUT {
@@ -249,33 +244,42 @@ fn buffer_of(rt: &HostRuntime, len: usize) -> Option<Vec<u8>>
     }
 }
 
-/// Returns the job of a plan, and the files of the system. Their reading is shown as progress.
-fn job_of<'a>(
-    rt: &'a HostRuntime,
+/// The image that is written: its plan, the files that it is made of, and what Linux would make of
+/// it. It is as it is asked for (`files.asked`).
+#[derive(Clone, Copy)]
+struct Prepared<'a> {
     plan: &'a Plan,
     files: Files<'a>,
-    most: Option<u64>,
-    padding: Padding,
-) -> (Job<'a, Disk<'a>>, Disk<'a>)
-    requires planned { IsPlanOf plan.now.format files.origin.manifest.now plan.now.sizes plan.now }
-    requires count { length plan.now.sizes
-        ≡ length (sources_of files.origin.manifest.now.lines) }
-    requires within { IsWithin most plan.now.image_len }
-{
+    foreseen: Foreseen,
+    ghost planned: { IsPlanOf plan.now.format files.origin.manifest.now plan.now.sizes plan.now },
+    ghost count: { length plan.now.sizes ≡ length (sources_of files.origin.manifest.now.lines) },
+    ghost sizes: { plan.now.sizes ≡ map (λ s. s.len) files.stamps.now },
+    ghost format: { plan.now.format ≡ format_of files.asked.format },
+    ghost within: { IsWithin (most_of files.asked) plan.now.image_len },
+    ghost strict: { files.asked.strict ≡ true → foreseen.misread ≡ None },
+    ghost in_place: { files.asked.xip ≡ true → foreseen.programs ≢ None },
+}
+
+/// Returns the job of an image, and the files of the system. Their reading is shown as progress.
+fn job_of<'a>(rt: &'a HostRuntime, prepared: Prepared<'a>) -> (Job<'a, Disk<'a>>, Disk<'a>) {
+    let Prepared {
+        plan,
+        files,
+        foreseen,
+    } = prepared;
     let bytes = plan
         .sizes()
         .iter()
         .fold(0, |sum: u64, size| sum.saturating_add(*size));
     let progress = Progress::new(rt, bytes.saturating_mul(passes(plan.format())));
     let job = Job {
+        asked: files.asked,
         text: files.origin.text,
         manifest: files.origin.manifest,
-        directory: files.directory,
         names: files.names,
         states: files.stamps,
         plan,
-        most,
-        padding,
+        foreseen,
     };
     (job, Disk::new(rt, progress))
 }
@@ -288,63 +292,26 @@ fn say_unkept(reporter: &Reporter<'_>, e: KeepError, name: &str) -> Status {
     }
 }
 
-/// Where an image goes: the target and its name, the most bytes that it may have, the bytes that
-/// follow it, and the rule that is kept with it and its name.
+/// Where an image goes: the target, and the rule that is kept with it.
 #[derive(Drop)]
-struct Destination<'a> {
+struct Destination {
     target: Target,
-    out: &'a str,
-    most: Option<u64>,
-    padding: Padding,
     rule: Option<Target>,
-    depfile: Option<&'a str>,
 }
 
-/// Returns the most bytes that an image may have, if there is a limit.
-pub fn most_bytes(asked: Build<'_>) -> Option<u64> {
-    let partition = asked.padding.map(|padding| padding.size);
-    match (asked.max_size, partition) {
-        (Some(most), Some(size)) => Some(most.min(size)),
-        (most, size) => most.or(size),
-    }
-}
-
-/// The bytes that follow an image of this length.
-fn padding_after(asked: Build<'_>, len: usize) -> Padding {
-    match asked.padding {
-        Some(padding) => Padding {
-            len: padding.size.saturating_sub(len as u64),
-            byte: padding.fill,
-        },
-        None => Padding { len: 0, byte: 0 },
-    }
-}
-
-/// Builds the image of a plan through a buffer, and reports this or why it was not built.
+/// Builds an image through a buffer, and reports this or why it was not built.
 fn put_image(
     reporter: &Reporter<'_>,
-    plan: &Plan,
-    files: Files<'_>,
-    destination: Destination<'_>,
+    prepared: Prepared<'_>,
+    destination: Destination,
     buffer: &mut [u8],
 ) -> Result<(), Status>
-    requires planned { IsPlanOf plan.now.format files.origin.manifest.now plan.now.sizes plan.now }
-    requires count { length plan.now.sizes
-        ≡ length (sources_of files.origin.manifest.now.lines) }
-    requires within { IsWithin destination.most plan.now.image_len }
     requires buffer { 4096 ≤ length buffer.old }
     requires words { length buffer.old % 4 ≡ 0 }
 {
-    let rt = reporter.rt;
-    let Destination {
-        target,
-        out,
-        most,
-        padding,
-        rule,
-        depfile,
-    } = destination;
-    let (job, opener) = job_of(rt, plan, files, most, padding);
+    let (rt, files) = (reporter.rt, prepared.files);
+    let Destination { target, rule } = destination;
+    let (job, opener) = job_of(rt, prepared);
     let tools = Tools {
         opener,
         last: Unchanged {
@@ -364,8 +331,10 @@ fn put_image(
     } = target.build(rt, &job, tools, buffer, stdout);
     match result {
         Ok(()) => Ok(()),
-        Err(Unbuilt::NotMade(e)) => Err(say_unmade(reporter, files, e, unread, out)),
-        Err(Unbuilt::NotKept(e)) => Err(say_unkept(reporter, e, depfile.unwrap_or(""))),
+        Err(Unbuilt::NotMade(e)) => Err(say_unmade(reporter, files, e, unread)),
+        Err(Unbuilt::NotKept(e)) => {
+            Err(say_unkept(reporter, e, files.asked.depfile.unwrap_or("")))
+        }
         Err(Unbuilt::NotReported) => Err(reporter.say(Ending::WriteFault)),
     }
 }
@@ -376,8 +345,8 @@ fn say_unmade(
     files: Files<'_>,
     e: FillError<Unwritten<Late>>,
     unread: Option<io::Error>,
-    out: &str,
 ) -> Status {
+    let out = files.asked.out;
     match e {
         FillError::NotKept(e) => say_unkept(reporter, e, out),
         FillError::NotWritten(Unwritten::Late(late), _) => files.say_late(reporter, late),
@@ -388,70 +357,60 @@ fn say_unmade(
     }
 }
 
-/// Builds the image of a plan through a large buffer, if there is memory for it.
+/// Builds an image through a large buffer, if there is memory for it.
 fn write_image(
     reporter: &Reporter<'_>,
-    plan: &Plan,
-    files: Files<'_>,
-    destination: Destination<'_>,
-) -> Result<(), Status>
-    requires planned { IsPlanOf plan.now.format files.origin.manifest.now plan.now.sizes plan.now }
-    requires count { length plan.now.sizes
-        ≡ length (sources_of files.origin.manifest.now.lines) }
-    requires within { IsWithin destination.most plan.now.image_len }
-{
+    prepared: Prepared<'_>,
+    destination: Destination,
+) -> Result<(), Status> {
     match buffer_of(reporter.rt, LARGE) {
-        Some(mut buffer) => put_image(reporter, plan, files, destination, buffer.as_mut_slice()),
+        Some(mut buffer) => put_image(reporter, prepared, destination, buffer.as_mut_slice()),
         None => {
             let mut buffer: [u8; 4096] = [0; 4096];
-            put_image(reporter, plan, files, destination, buffer.as_mut_slice())
+            put_image(reporter, prepared, destination, buffer.as_mut_slice())
         }
     }
 }
 
 /// Refuses a plan whose image is longer than it may be.
-fn check_size(
-    reporter: &Reporter<'_>,
-    out: &str,
-    most: Option<u64>,
-    plan: &Plan,
-) -> Result<(), Status>
-    ensures { OnOk result (IsWithin most plan.now.image_len) }
+fn check_size(reporter: &Reporter<'_>, asked: Build<'_>, plan: &Plan) -> Result<(), Status>
+    ensures { OnOk result (IsWithin (most_of asked.entry) plan.now.image_len) }
 {
     let len = plan.image_len() as u64;
-    match most {
+    match most_bytes(&asked) {
         Some(most) if len > most => {
             let stdout = &mut Plain::new(Held::new(reporter.rt.alloc(), io::writer(reporter.rt)));
             let status = printed(reporter, print_size(stdout, len, most));
-            warned::explain_size(reporter, out, len, most);
+            warned::explain_size(reporter, asked.out, len, most);
             Err(status)
         }
         _ => Ok(()),
     }
 }
 
-/// Returns the warnings for the planned image. A strict build refuses it if there are any.
+/// Returns the warnings for the planned image, and the first one if there is one. A strict build
+/// refuses the image then.
 fn warnings_of<'m>(
     reporter: &Reporter<'_>,
     asked: Build<'_>,
     origin: Origin<'m>,
     sizes: &[u64],
-) -> Result<Warnings<'m>, Status>
+) -> Result<(Warnings<'m>, Option<Misread>), Status>
     requires { length sizes.now ≡ length (sources_of origin.manifest.now.lines) }
+    ensures { IfOk result (λ found. asked.entry.strict ≡ true → found.1 ≡ None) }
 {
     let alloc = reporter.rt.alloc();
     let Ok(warnings) = foreseen(alloc, asked.format, origin.manifest, sizes) else {
         return Err(reporter.say(Ending::Memory));
     };
     match warnings.least() {
-        Some((line, number)) if asked.strict => {
-            let number = u32::try_from(number).unwrap_or(u32::MAX);
+        Some(Misread { line, number }) if asked.strict => {
             let out = &mut Plain::new(Held::new(alloc, io::writer(reporter.rt)));
             let status = printed(reporter, print_strict(out, line, number));
             warned::explain(reporter, origin, &warnings, "");
             Err(status)
         }
-        _ => Ok(warnings),
+        least => Ok((warnings, least)),
     }
 }
 
@@ -462,7 +421,9 @@ fn check_programs(
     asked: Build<'_>,
     plan: &Plan,
     files: Files<'_>,
-) -> Result<Option<u64>, Status> {
+) -> Result<Option<u64>, Status>
+    ensures { IfOk result (λ programs. asked.entry.xip ≡ true → programs ≢ None) }
+{
     if !asked.xip {
         return Ok(None);
     }
@@ -483,30 +444,19 @@ fn check_programs(
     }
 }
 
-/// Builds the image of a plan in the file that is asked for, and the rule if one is. The image has
-/// at most this number of bytes, if there is one.
-fn write_files(
-    reporter: &Reporter<'_>,
-    asked: Build<'_>,
-    plan: &Plan,
-    most: Option<u64>,
-    files: Files<'_>,
-) -> Result<(), Status>
-    requires planned { IsPlanOf plan.now.format files.origin.manifest.now plan.now.sizes plan.now }
-    requires count { length plan.now.sizes
-        ≡ length (sources_of files.origin.manifest.now.lines) }
-    requires sizes { plan.now.sizes ≡ map (λ s. s.len) files.stamps.now }
-    requires within { IsWithin most plan.now.image_len }
-{
+/// Builds an image in the file that is asked for, and the rule if one is.
+fn write_files(reporter: &Reporter<'_>, prepared: Prepared<'_>) -> Result<(), Status> {
+    let files = prepared.files;
+    let asked = files.asked;
     let inputs = Inputs {
         manifest: files.manifest.identity,
         stamps: files.kept.states,
     };
     if let Some(name) = asked.depfile {
-        depfile::check(reporter, name, rule(asked, files))?;
+        depfile::check(reporter, name, rule(files))?;
     }
     let target = target_of(reporter, asked, inputs)?;
-    let rule = match rule_of(reporter, asked, files, inputs, &target) {
+    let rule = match rule_of(reporter, files, inputs, &target) {
         Ok(rule) => rule,
         Err(status) => {
             target.abandon(reporter.rt);
@@ -514,15 +464,7 @@ fn write_files(
         }
     };
     let_rest(reporter.rt, files.kept.states);
-    let destination = Destination {
-        target,
-        out: asked.out,
-        most,
-        padding: padding_after(asked, plan.image_len()),
-        rule,
-        depfile: asked.depfile,
-    };
-    write_image(reporter, plan, files, destination)
+    write_image(reporter, prepared, Destination { target, rule })
 }
 
 /// An image that was built: the status, and the numbers of bytes of the image and of each source.
@@ -584,9 +526,8 @@ fn build_from<'a>(
     let stamps = stamps_of(reporter, origin, names)?;
     let sizes = sizes_of(reporter, &stamps)?;
     let plan = planned(reporter, asked.format, origin, &sizes)?;
-    let most = most_bytes(asked);
-    check_size(reporter, asked.out, most, &plan)?;
-    let warnings = warnings_of(reporter, asked, origin, &sizes)?;
+    check_size(reporter, asked, &plan)?;
+    let (warnings, misread) = warnings_of(reporter, asked, origin, &sizes)?;
     let (owned, states) = kept_files(reporter, names, &stamps, origin.watched)?;
     let kept = as_texts(reporter, &owned)?;
     let others = origin.watched.iter().filter(|file| !file.is_source);
@@ -596,15 +537,20 @@ fn build_from<'a>(
         in_rule: names.len().saturating_add(others.count()),
     };
     let files = Files {
+        asked,
         origin,
         manifest,
-        directory: asked.sources,
         names,
         stamps: &stamps,
         kept,
     };
     let programs = check_programs(reporter, asked, &plan, files)?;
-    write_files(reporter, asked, &plan, most, files)?;
+    let prepared = Prepared {
+        plan: &plan,
+        files,
+        foreseen: Foreseen { misread, programs },
+    };
+    write_files(reporter, prepared)?;
     warned::explain(reporter, origin, &warnings, "warning: ");
     Ok(Built {
         status: Status::Done,

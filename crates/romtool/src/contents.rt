@@ -1,6 +1,7 @@
 //! The table of what an image has in it, for people.
-use crate::building::{Built, most_bytes};
+use crate::building::Built;
 use crate::reporter::Reporter;
+use build_commands::most_bytes;
 use command_line::Build;
 use manifest::{Line, Manifest, Word};
 use sentences::words::{escaped, shown};
@@ -141,7 +142,7 @@ fn table(
         len.saturating_sub(contents),
         "names, tables and padding",
     )?;
-    if let Some(most) = most_bytes(asked) {
+    if let Some(most) = most_bytes(&asked) {
         add_row(&mut text, alloc, most.saturating_sub(len), "free")?;
     }
     if let Some(programs) = built.programs {

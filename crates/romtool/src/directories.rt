@@ -1,5 +1,8 @@
 //! Whether scanned directories changed.
+ghost use Rattle.std.specs.Prelude.{⊤};
+
 use crate::reporter::Reporter;
+use build_commands::Recheck;
 use directory_walk::Directory;
 use rom_commands::Status;
 use sentences::reasons::FOLDER_CHANGED;
@@ -26,4 +29,24 @@ pub fn all_stayed(
         stayed(reporter, top, directory)?;
     }
     Ok(())
+}
+
+/// The directories of the system below `top`, which are looked at again.
+#[derive(Drop)]
+pub struct Again<'a> {
+    pub reporter: &'a Reporter<'a>,
+    pub top: &'a str,
+}
+
+impl Recheck for Again<'_> {
+    type State = Stamp;
+
+    type Error = Status;
+
+    // They may change at any time.
+    ghost as_found = { λ _ _. ⊤ };
+
+    fn check(&mut self, directories: &[Directory<Stamp>]) -> Result<(), Status> {
+        all_stayed(self.reporter, self.top, directories)
+    }
 }

@@ -6,7 +6,7 @@ ghost use Rattle.image_check.specs.Any.{any_view};
 use crate::reporter::Reporter;
 use command_line::Verify;
 use image_check::AnyImage;
-use image_compare::{compare, find_holder, pass_over};
+use image_compare::{Dump, find_holder};
 use memchr::memmem;
 use program_streams::{Ahead, read_until};
 use rom_fields::Plain;
@@ -22,20 +22,25 @@ const FRONT: usize = 64;
 /// The most bytes of a dump that are searched for it.
 const SEARCHED: u64 = 64 << 20;
 
-/// Returns the offset of the first byte of an image that a dump does not have.
-///
-/// # Errors
-///
-/// The operating system's error.
-pub fn difference(rt: &HostRuntime, image: &[u8], asked: Verify<'_>) -> io::Result<Option<usize>> {
-    let mut file = File::open(rt, asked.dump)?;
-    let left = match file.seek(SeekFrom::Start(asked.offset)) {
-        Ok(_) => 0,
-        Err(_) => asked.offset,
-    };
-    let mut dump = Ahead::new(BufReader::new(rt.alloc(), file)?);
-    pass_over(&mut dump, left)?;
-    compare(image, &mut dump)
+/// A dump in a file.
+#[derive(Drop)]
+pub struct DumpFile<'a> {
+    pub rt: &'a HostRuntime,
+    pub name: &'a str,
+}
+
+impl Dump for DumpFile<'_> {
+    type Reader = Ahead<BufReader<File>>;
+
+    fn open(self, offset: u64) -> io::Result<(Ahead<BufReader<File>>, u64)> {
+        let mut file = File::open(self.rt, self.name)?;
+        // a pipe, for example, is read from its beginning on
+        let before = match file.seek(SeekFrom::Start(offset)) {
+            Ok(_) => 0,
+            Err(_) => offset,
+        };
+        Ok((Ahead::new(BufReader::new(self.rt.alloc(), file)?), before))
+    }
 }
 
 /// The offset in the dump at which the image begins, if its front is there.

@@ -11,25 +11,22 @@ ghost use Rattle.image_manifest.specs.Members.{AreMembers};
 ghost use Rattle.tree_extract.specs.Choices.{IsFit};
 
 use crate::extraction::Extraction;
+use crate::output::{Output, output};
 use crate::reporter::Reporter;
 use crate::totals::is_many_times;
+use build_commands::{Description, Filled, Unextracted, extract_image};
 use command_line::Extract;
 use image_check::AnyImage;
 use image_info::volume;
-use image_manifest::{
-    FileRules, Giving, ImageTree, LENDING, Member, Refused, kinds_made, members, write_manifest,
-};
+use image_manifest::{FileRules, Giving, ImageTree, LENDING, Member, Refused, kinds_made, members};
 use path_patterns::Piece;
-use program_streams::Again;
 use rom_commands::{Ending, Status};
-use rom_fields::{ByteWrite, Plain};
 use rom_tree::{Kind, Stat, TreeImage};
 use sentences::reasons::{INCOMPLETE, LONG_PATH, LONG_VOLUME};
-use std::io::{self, BufWriter};
-use std::slice;
+use std::{io, slice};
 use system_files::base;
 use system_tree::{Syncing, System, Top};
-use tree_extract::{Kind as Made, Stopped, Tree, extract};
+use tree_extract::{Kind as Made, Rights, Stopped, Tree};
 
 /// The most bytes of a volume's name in a manifest.
 const LONGEST_VOLUME: usize = 255;
@@ -80,6 +77,32 @@ impl Counts {
     }
 }
 
+/// The directory that was entered, and the rights that it gets after it is filled.
+#[derive(Drop)]
+struct Entered {
+    top: Top,
+    rights: Rights,
+    syncing: Syncing,
+}
+
+impl Filled for Entered {
+    ghost use Rattle.std.specs.Prelude.{⊤};
+
+    type Error = io::Error;
+
+    // Others may change them at any time.
+    ghost finished = { λ _. ⊤ };
+
+    fn finish(self) -> io::Result<()> {
+        let Entered {
+            top,
+            rights,
+            syncing,
+        } = self;
+        top.end(rights, syncing)
+    }
+}
+
 impl Extraction<'_> {
     /// Checks that the system accepts each name of what is made, and counts the names.
     fn try_names(&self, counts: &mut Counts) -> Result<(), Status> {
@@ -98,32 +121,53 @@ impl Extraction<'_> {
         Ok(())
     }
 
-    /// Fills the open directory of this name, and syncs it to the disk if that is asked for.
-    fn fill(&self, directory: &str, top: Top, counts: &mut Counts) -> Result<(), Status>
+    /// Fills the open directory of this name, syncs it to the disk if that is asked for, and prints
+    /// the image's manifest if it is described. Reports what is left out and made otherwise.
+    fn fill(
+        &self,
+        directory: &str,
+        top: Top,
+        description: Option<Description<'_>>,
+        out: &mut Output<'_>,
+        mut counts: Counts,
+    ) -> Result<(), Status>
         requires { IsLawfulTree (any_view self.now.tree.now.image.now).tree }
     {
-        image_manifest::laws::can_be_extracted();
         let mut system = System::new(self.members());
-        if let Err(Stopped { index, error }) = extract(self.tree, &mut system) {
-            return Err(self.refused(index, &error));
-        }
+        let entered = Entered {
+            top,
+            rights: self.tree.rights(0),
+            syncing: self.syncing,
+        };
+        let result = extract_image(self.tree, &mut system, entered, description, out);
         counts.further = system.further;
         counts.copies = system.copies;
-        match top.end(self.tree.rights(0), self.syncing) {
-            Ok(()) => Ok(()),
-            Err(e) => Err(self.reporter.refused(directory.as_bytes(), &e)),
-        }
+        let status = match result {
+            Ok(()) => {
+                self.explain(counts);
+                return Ok(());
+            }
+            Err(Unextracted::NotPrinted) => {
+                self.explain(counts);
+                return Err(self.reporter.say(Ending::WriteFault));
+            }
+            Err(Unextracted::Stopped(Stopped { index, error })) => self.refused(index, &error),
+            Err(Unextracted::NotFinished(e)) => self.reporter.refused(directory.as_bytes(), &e),
+        };
+        self.reporter.explain(directory.as_bytes(), &INCOMPLETE);
+        Err(status)
     }
 
-    /// Makes all members in the directory of this name. Nothing is made if the system refuses a
-    /// name of the image.
-    fn run(&self, directory: &str) -> Result<Counts, Status>
+    /// Makes all members in the directory of this name, and prints the image's manifest if it is
+    /// described. Nothing is made if the system refuses a name of the image.
+    fn run(&self, directory: &str, description: Option<Description<'_>>) -> Result<(), Status>
         requires { IsLawfulTree (any_view self.now.tree.now.image.now).tree }
     {
         let reporter = self.reporter;
         let mut counts = Counts::default();
         self.try_names(&mut counts)?;
         self.explain_bytes(counts.bytes);
+        let mut out = output(reporter)?;
         let top = match Top::enter(reporter.rt, directory) {
             Ok(top) => top,
             Err(e) => return Err(reporter.refused(directory.as_bytes(), &e)),
@@ -142,13 +186,7 @@ impl Extraction<'_> {
             tree: &tree,
             ..*self
         };
-        match filling.fill(directory, top, &mut counts) {
-            Ok(()) => Ok(counts),
-            Err(status) => {
-                reporter.explain(directory.as_bytes(), &INCOMPLETE);
-                Err(status)
-            }
-        }
+        filling.fill(directory, top, description, &mut out, counts)
     }
 
     /// Explains how the directory differs from the image.
@@ -194,30 +232,6 @@ fn is_made(kind: Kind) -> bool {
     matches!(kind, Kind::Directory | Kind::Regular | Kind::Symlink)
 }
 
-/// Prints the manifest of an image whose files are in this directory. Its programs have this
-/// alignment.
-fn print<'a>(
-    reporter: &Reporter<'_>,
-    tree: &ImageTree<'a, 'a, AnyImage<'a>>,
-    directory: &str,
-    align: u32,
-) -> Status {
-    let Ok(out) = BufWriter::new(reporter.rt.alloc(), Again::new(io::writer(reporter.rt))) else {
-        return reporter.say(Ending::Memory);
-    };
-    let mut out = Plain::new(out);
-    let (image, members) = (tree.image, tree.members);
-    let rules = FileRules {
-        directory: directory.as_bytes(),
-        align,
-    };
-    let written = write_manifest(image, members, volume(image), rules, &mut out);
-    if written.is_err() || out.flush().is_err() {
-        return reporter.say(Ending::WriteFault);
-    }
-    Status::Done
-}
-
 /// Makes the files of an image in a directory, and prints the manifest of the image if no paths are
 /// asked for.
 fn take_apart<'a>(
@@ -239,14 +253,15 @@ fn take_apart<'a>(
             Syncing::Synced
         },
     };
-    match extraction.run(asked.directory) {
-        Ok(counts) => {
-            extraction.explain(counts);
-            if !extraction.is_whole {
-                return Status::Done;
-            }
-            print(reporter, tree, directory, asked.align)
-        }
+    let description = extraction.is_whole.then_some(Description {
+        volume: volume(tree.image),
+        rules: FileRules {
+            directory: directory.as_bytes(),
+            align: asked.align,
+        },
+    });
+    match extraction.run(asked.directory, description) {
+        Ok(()) => Status::Done,
         Err(status) => status,
     }
 }

@@ -7,6 +7,7 @@ use crate::origin::Origin;
 use crate::reading::{self, TextFile};
 use crate::reporter::Reporter;
 use crate::watched::Watched;
+use command_line::Build;
 use image_build::StreamError;
 use rom_commands::{Ending, Status};
 use sentences::reasons::{NOT_TAKEN, SOURCE_CHANGED, SOURCE_UNREAD, SUM_DIFFERS};
@@ -64,18 +65,18 @@ pub fn kept_states(
     Ok(all)
 }
 
-/// The sources of an image: their names, and the states that they and the manifest have to keep.
-/// The names are those of the manifest's sources in its order, each as it is opened.
+/// What is asked for, and the sources of the image: their names, and the states that they and the
+/// manifest have to keep. The names are those of the manifest's sources in its order, each as it is
+/// opened.
 #[derive(Clone, Copy)]
 pub struct Files<'a> {
+    pub asked: Build<'a>,
     pub origin: Origin<'a>,
     pub manifest: TextFile,
-    /// The directory in which the sources are, if one is given.
-    pub directory: Option<&'a str>,
     pub names: &'a [&'a str],
     pub stamps: &'a [Stamp],
     pub kept: Kept<'a>,
-    ghost named: { map (λ n. n.now) names.now ≡ opened_as (option_map (λ d. d.now) directory)
+    ghost named: { map (λ n. n.now) names.now ≡ opened_as (option_map (λ d. d.now) asked.sources)
         (sources_of origin.manifest.now.lines) },
 }
 

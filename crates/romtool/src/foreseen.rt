@@ -3,6 +3,7 @@
 ghost use Rattle.std.specs.Prelude.{◌≡◌, length};
 ghost use Rattle.manifest.specs.Lines.{sources_of};
 
+use build_commands::Misread;
 use manifest::{Line, Manifest, Word};
 use plan_rows::PathTargets;
 use plan_types::Format;
@@ -93,16 +94,14 @@ impl<'a> Warnings<'a> {
         &self.found
     }
 
-    /// Returns the line and the number of the least warning, compared by line and then by number.
-    pub fn least(&self) -> Option<(u64, usize)> {
-        let mut least = None;
+    /// Returns the least warning that occurs, compared by line and then by number.
+    pub fn least(&self) -> Option<Misread> {
+        let mut least: Option<Misread> = None;
         for (number, warning) in self.found.iter().enumerate() {
-            let is_less = match least {
-                None => true,
-                Some((line, _)) => warning.line < line,
-            };
-            if warning.count > 0 && is_less {
-                least = Some((warning.line, number));
+            let line = warning.line;
+            if warning.count > 0 && least.is_none_or(|least| line < least.line) {
+                let number = u32::try_from(number).unwrap_or(u32::MAX);
+                least = Some(Misread { line, number });
             }
         }
         least

@@ -6,6 +6,7 @@ ghost use Rattle.image_info.specs.Gaps.{IsChecked};
 ghost use Rattle.image_manifest.specs.Describable.{IsLawfulTree};
 ghost use Rattle.rom_commands.specs.Asked.{Fits};
 
+use crate::dump::DumpFile;
 use crate::output::{errors, lines, output};
 use crate::patterns::{all_pieces, only};
 use crate::printed::in_file;
@@ -16,9 +17,9 @@ use image_check::{AnyImage, check};
 use image_info::Numbers;
 use map_forms::is_prefix;
 use rom_commands::{
-    Asked, Ending, Status, has_addresses, print, print_diff, print_digests, print_extents,
-    print_file, print_header, print_image_digest, print_numbers, print_picture, print_places,
-    print_script, print_verdict, refuse,
+    Asked, Ending, Status, Verified, has_addresses, print, print_diff, print_digests,
+    print_extents, print_file, print_header, print_image_digest, print_numbers, print_picture,
+    print_places, print_script, refuse, verify_dump,
 };
 use rom_faults::{CheckError, Fault};
 use rom_fields::{ByteWrite, put};
@@ -294,16 +295,25 @@ pub fn diff(reporter: &Reporter<'_>, asked: Diff<'_>) -> Result<Status, Status> 
 pub fn verify(reporter: &Reporter<'_>, asked: Verify<'_>) -> Result<Status, Status> {
     let loaded = loaded_data(reporter, asked.image)?;
     let image = checked(reporter, asked.image, &loaded.bytes)?;
-    let found = match dump::difference(reporter.rt, image.bytes(), asked) {
-        Ok(found) => found,
+    let (mut out, mut err) = (output(reporter)?, errors(reporter.rt));
+    let dump = DumpFile {
+        rt: reporter.rt,
+        name: asked.dump,
+    };
+    let Verified { ending, difference } = match verify_dump(
+        image.bytes(),
+        dump,
+        asked.offset,
+        &mut out,
+        &mut err,
+    ) {
+        Ok(verified) => verified,
         Err(e) => return Err(reporter.refused(asked.dump.as_bytes(), &e)),
     };
-    let (mut out, mut err) = (output(reporter)?, errors(reporter.rt));
-    let ending = print_verdict(image.bytes().len(), found, &mut out, &mut err);
     reporter.finish(err, ending, b"");
     if reporter.is_explained()
         && ending == Ending::Warned
-        && let Some(at) = found
+        && let Some(at) = difference
     {
         let _ = dump::explain(reporter, &image, asked, at);
     }

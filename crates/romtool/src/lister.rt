@@ -38,12 +38,12 @@ pub trait Survey {
 
 /// Lists the directory `top` of the system and those below it. Reports what cannot be read.
 #[derive(Drop)]
-struct SystemLister<'a, S> {
-    reporter: Reporter<'a>,
-    top: &'a str,
-    // the device whose directories are entered, if not all are
-    device: Option<u64>,
-    survey: &'a mut S,
+pub struct SystemLister<'a, S> {
+    pub reporter: Reporter<'a>,
+    pub top: &'a str,
+    /// The device whose directories are entered, if not all are.
+    pub device: Option<u64>,
+    pub survey: &'a mut S,
 }
 
 impl<'a, S: Survey> SystemLister<'a, S> {
@@ -142,6 +142,28 @@ impl<'a, S: Survey> Lister for SystemLister<'a, S> {
     }
 }
 
+/// Returns the directory `top` as a scan begins with it, and its attributes. Reports why it cannot
+/// be read.
+pub fn opened(reporter: &Reporter<'_>, top: &str) -> Result<(Metadata, Directory<Stamp>), Status> {
+    let attributes = match directory_at(reporter.rt, top) {
+        Ok(attributes) => attributes,
+        Err(e) => return Err(reporter.refused(top.as_bytes(), &e)),
+    };
+    let Ok(path) = String::from_str(reporter.rt.alloc(), base(top)) else {
+        return Err(reporter.say(Ending::Memory));
+    };
+    let state = Stamp::of(&attributes);
+    Ok((attributes, Directory { path, state }))
+}
+
+/// Reports why a walk ended early.
+pub fn say_unwalked(reporter: &Reporter<'_>, e: WalkError<Status>) -> Status {
+    match e {
+        WalkError::Refused(refusal) => refusal.error,
+        WalkError::OutOfMemory => reporter.say(Ending::Memory),
+    }
+}
+
 /// Returns the attributes of the directory `top`, and all that is below it. Reports what cannot be
 /// read.
 pub fn all_below<S: Survey>(
@@ -150,24 +172,16 @@ pub fn all_below<S: Survey>(
     one_file_system: bool,
     survey: &mut S,
 ) -> Result<(Metadata, Walked<S::Known, Stamp>), Status> {
-    let (reporter, alloc) = (*reporter, reporter.rt.alloc());
-    let attributes = match directory_at(reporter.rt, top) {
-        Ok(attributes) => attributes,
-        Err(e) => return Err(reporter.refused(top.as_bytes(), &e)),
-    };
-    let Ok(path) = String::from_str(alloc, base(top)) else {
-        return Err(reporter.say(Ending::Memory));
-    };
-    let state = Stamp::of(&attributes);
+    let reporter = *reporter;
+    let (attributes, directory) = opened(&reporter, top)?;
     let mut lister = SystemLister {
         reporter,
         top,
         device: one_file_system.then_some(attributes.dev()),
         survey,
     };
-    match walk(alloc, &mut lister, Directory { path, state }) {
+    match walk(reporter.rt.alloc(), &mut lister, directory) {
         Ok(walked) => Ok((attributes, walked)),
-        Err(WalkError::Refused(refusal)) => Err(refusal.error),
-        Err(WalkError::OutOfMemory) => Err(reporter.say(Ending::Memory)),
+        Err(e) => Err(say_unwalked(&reporter, e)),
     }
 }

@@ -1,17 +1,12 @@
 //! `romtool` builds, checks, lists and serves images of read-only file systems.
 //!
-//! `romtool build FORMAT MANIFEST OUT` builds an image from a manifest and the files that it names,
-//! and `romtool pack FORMAT DIR.. OUT` from directories.
-//! `romtool scan DIR` prints a manifest of the names and contents of a directory, and `romtool scan
-//! --all DIR` of the directory as it is. `romtool check IMAGE` reports whether a file holds a valid
-//! image. `romtool list IMAGE` lists its tree; `info`, `map`, `which`, `diff`, `digest`, `verify`,
-//! `cat` and `linux` report more of it. `romtool extract IMAGE DIR` takes it apart. `romtool serve
-//! IMAGE` answers lines from its tree, and `romtool space IMAGE..` from the trees of several
-//! images, with sessions. Without a subcommand, the example image `hello` is checked and listed.
+//! The subcommands are the rows of `table.rt` in `command_line`. Without one, the example image
+//! `hello` is checked and listed.
 //!
-//! What is printed, answered and written, and how a file is replaced, is proved in `rom_commands`,
-//! `build_commands`, `image_manifest` and `image_build`; what is read into memory and how streams
-//! are used, in `program_streams` and `system_files`; how an image is extracted, in `tree_extract`.
+//! What is printed, answered and written, how a file is replaced, and what the `ok` of a command
+//! means, is proved in `rom_commands`, `build_commands`, `image_manifest` and `image_build`; what
+//! is read into memory and how streams are used, in `program_streams` and `system_files`; how an
+//! image is extracted, in `tree_extract`.
 //! The proofs on files are about accounts: lists of the calls that `system_files` and `system_tree`
 //! make to the system. The other work with files and directories is only tested.
 #![tactic(auto)]

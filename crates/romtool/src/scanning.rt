@@ -1,18 +1,15 @@
 //! Prints the manifest of a directory.
-use crate::directories::all_stayed;
-use crate::lister::{self, Survey};
+use crate::directories;
+use crate::lister::{Survey, SystemLister, opened, say_unwalked};
+use crate::output::output;
 use crate::reporter::Reporter;
-use build_commands::{PrintError, print_walked};
+use build_commands::{PrintError, Unscanned, scan_directory};
 use command_line::Scan;
-use directory_walk::Entry;
-use program_streams::Again;
 use rom_commands::{Ending, Status};
-use rom_fields::Plain;
 use std::alloc::{AllocError, Global};
 use std::fs::{FileType, Metadata};
-use std::io::{self, BufWriter};
+use std::io;
 use std::os::unix::fs::{FileTypeExt, MetadataExt};
-use system_files::base;
 
 /// The bits of a mode by which someone may execute a file.
 const EXECUTABLE: u32 = 0o111;
@@ -112,37 +109,42 @@ impl Survey for PassedOver {
     }
 }
 
-/// All files below a directory, each directory before its entries, in the order of the bytes of
-/// paths. Reports a file that cannot be read, and a directory that changed during the scan. A name
-/// that is no UTF-8 is reported for its directory.
-fn all_below(
+/// Prints a manifest of the regular files and the directories below a directory. Reports a file
+/// that cannot be read, and a directory that changed during the scan. A name that is no UTF-8 is
+/// reported for its directory.
+fn print_below(
     reporter: &Reporter<'_>,
     scan: Scan<'_>,
     passed: &mut PassedOver,
-) -> Result<Vec<Entry<bool>>, Status> {
-    let (_, walked) = lister::all_below(reporter, scan.directory, scan.one_file_system, passed)?;
-    all_stayed(reporter, scan.directory, &walked.directories)?;
-    Ok(walked.entries)
+) -> Result<(), Status> {
+    let (alloc, top) = (reporter.rt.alloc(), scan.directory);
+    let (attributes, directory) = opened(reporter, top)?;
+    let mut out = output(reporter)?;
+    let mut lister = SystemLister {
+        reporter: *reporter,
+        top,
+        device: scan.one_file_system.then_some(attributes.dev()),
+        survey: passed,
+    };
+    let recheck = &mut directories::Again { reporter, top };
+    match scan_directory(alloc, &mut lister, directory, recheck, &mut out) {
+        Ok(()) => Ok(()),
+        Err(Unscanned::NotWalked(e)) => Err(say_unwalked(reporter, e)),
+        Err(Unscanned::Changed(status)) => Err(status),
+        Err(Unscanned::NotPrinted(PrintError::OutOfMemory)) => Err(reporter.say(Ending::Memory)),
+        Err(Unscanned::NotPrinted(PrintError::Failed)) => Err(reporter.say(Ending::WriteFault)),
+    }
 }
 
 /// Prints a manifest of the regular files and the directories below a directory, and returns the
 /// status. Nothing is printed if one of the directories cannot be listed.
 pub fn run(reporter: &Reporter<'_>, scan: Scan<'_>) -> Status {
-    let (directory, alloc) = (scan.directory, reporter.rt.alloc());
     let mut passed = PassedOver::default();
-    let entries = match all_below(reporter, scan, &mut passed) {
-        Ok(entries) => entries,
-        Err(status) => return status,
-    };
-    let Ok(out) = BufWriter::new(alloc, Again::new(io::writer(reporter.rt))) else {
-        return reporter.say(Ending::Memory);
-    };
-    match print_walked(alloc, &mut Plain::new(out), base(directory).len(), entries) {
+    match print_below(reporter, scan, &mut passed) {
         Ok(()) => {
-            passed.explain(reporter, directory);
+            passed.explain(reporter, scan.directory);
             Status::Done
         }
-        Err(PrintError::OutOfMemory) => reporter.say(Ending::Memory),
-        Err(PrintError::Failed) => reporter.say(Ending::WriteFault),
+        Err(status) => status,
     }
 }

@@ -16,3 +16,9 @@ returns-else-failed-clause-text g c =
 pub returns-else-failed-clause-count : goal.returns-else-failed-clause-count
 returns-else-failed-clause-count g c =
     said_quiet _ _ _ _ c.if-failed.false (chain c.put_volume.ensures c.put_members.ensures)
+
+pub returns-then-failed-clause-unflushed : goal.returns-then-failed-clause-unflushed
+returns-then-failed-clause-unflushed g c = (chain c.put_volume.ensures c.put_members.ensures).unflushed
+
+pub returns-else-failed-clause-unflushed : goal.returns-else-failed-clause-unflushed
+returns-else-failed-clause-unflushed g c = (chain c.put_volume.ensures c.put_members.ensures).unflushed

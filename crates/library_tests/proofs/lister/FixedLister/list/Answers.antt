@@ -17,7 +17,7 @@ returns-then-eq-clause-known c g is =
     IfOk-weaker c.outer.result
     (λ listed. listed_names listed.items ≡ level top outer)
     (λ listed. listed_names listed.items ≡ level p g)
-    (λ listed same. same ∙ sym (ap (λ (q : List ℕ). level q outer) it.0) ∙ sym (ap (λ (h : Tree ℕ). level p h) it.1))
+    (λ listed same. same ∙ sym (ap (λ (q : List ℕ). level q outer) it.0) ∙ sym (ap (λ (h : Tree Bool). level p h) it.1))
     c.outer.ensures
 
 pub returns-else-eq-clause-known : goal.returns-else-eq-clause-known
@@ -28,5 +28,5 @@ returns-else-eq-clause-known c g is =
     IfOk-weaker c.inner.result
     (λ listed. listed_names listed.items ≡ level within inner)
     (λ listed. listed_names listed.items ≡ level p g)
-    (λ listed same. same ∙ sym (ap (λ (q : List ℕ). level q inner) it.0) ∙ sym (ap (λ (h : Tree ℕ). level p h) it.1))
+    (λ listed same. same ∙ sym (ap (λ (q : List ℕ). level q inner) it.0) ∙ sym (ap (λ (h : Tree Bool). level p h) it.1))
     c.inner.ensures
