@@ -233,7 +233,7 @@ directory_first (x ∷ path) n =
     ap (λ (o : Ordering). ordering_then o (slice_cmp nat_cmp path (path ++ 47 ∷ n))) (same_number x)
     ∙ directory_first path n
 
-side : (k n : ℕ) → (k < n) ⊎ (n ≤ k)
+pub side : (k n : ℕ) → (k < n) ⊎ (n ≤ k)
 side zero zero = inr (omega arith)
 side zero (suc n) = inl (omega arith)
 side (suc k) zero = inr (omega arith)

@@ -15,3 +15,4 @@ pub mod Spelled
 mod Joined
 mod LineFlushed
 pub mod Making
+mod Counted

@@ -1,5 +1,8 @@
 -- The differences of a line from the file that was found. (This project's own.)
-use Rattle.std.specs.Prelude.{ℕ, ◌/◌, ◌%◌, ◌==◌, ◌&&◌, not, Bool, true, false}
+use Rattle.std.specs.Prelude.{ℕ, ◌+◌, ◌/◌, ◌%◌, ◌==◌, ◌&&◌, not, Bool, true, false, List, [], ◌∷◌}
+use Rattle.std.specs.Prelude.{if◌then◌else◌}
+use Rattle.manifest.specs.Entries.{line_of}
+use Rattle.manifest.specs.declared.entry.Entry.{Entry}
 use Rattle.manifest.specs.declared.line.Line.{Line}
 use Rattle.manifest.specs.declared.line.Word.{Word}
 use Rattle.manifest.specs.declared.line.Word.TheVariants.{Dir, File, Same, Hard}
@@ -28,3 +31,22 @@ is_changed w old new = has_attributes w && not (old == new)
 -- all may read what the line makes, but not all may read the file
 abbrev pub is_opened : Line → NamedFile → Bool
 is_opened l f = has_readers l.word && (all_may_read l.mode && not (all_may_read f.mode))
+
+-- the line has another owner, group or mode than the file
+abbrev pub has_other_owner : Entry → NamedFile → Bool
+has_other_owner e f = is_changed (line_of e).word f.uid (line_of e).uid
+
+abbrev pub has_other_group : Entry → NamedFile → Bool
+has_other_group e f = is_changed (line_of e).word f.gid (line_of e).gid
+
+abbrev pub has_other_mode : Entry → NamedFile → Bool
+has_other_mode e f = is_changed (line_of e).word f.mode (line_of e).mode
+
+abbrev pub one_if : Bool → ℕ
+one_if holds = if holds then 1 else 0
+
+-- how many lines differ so from the file of the same number
+abbrev pub count_by : (Entry → NamedFile → Bool) → List Entry → List NamedFile → ℕ
+count_by differs [] fs = 0
+count_by differs (e ∷ es) [] = 0
+count_by differs (e ∷ es) (f ∷ fs) = one_if (differs e f) + count_by differs es fs

@@ -28,6 +28,13 @@ misfit_line line number = refusal_line (codes "plan") line number (name_of_refus
 unfoldable pub size_line : ℕ → ℕ → List ℕ
 size_line len most = codes "size " ++ (decimal len ++ (codes " " ++ (decimal most ++ codes "\n")))
 
+-- for a strict scan that would change so many owners, groups and modes: unfit OWNERS GROUPS MODES,
+-- and a line feed
+unfoldable pub unfit_line : ℕ → ℕ → ℕ → List ℕ
+unfit_line owners groups modes =
+    codes "unfit " ++ (decimal owners
+    ++ (codes " " ++ (decimal groups ++ (codes " " ++ (decimal modes ++ codes "\n")))))
+
 -- for an image with a program that would not be executed in place: xip LINE REASON PATH, and a line
 -- feed
 unfoldable pub xip_line : ℕ → List ℕ → List ℕ → List ℕ

@@ -1,10 +1,12 @@
-//! Prints the line of a build, and flushes it.
+//! Prints the line of a build or of a strict scan, and flushes it.
 ghost use Rattle.std.specs.Prelude.{◌≡◌, OnOk, decimal};
 ghost use Rattle.build_commands.specs.Printed.{built_line, manifest_line, misfit_line};
-ghost use Rattle.build_commands.specs.Printed.{refusal_line, size_line, strict_line, xip_line};
+ghost use Rattle.build_commands.specs.Printed.{refusal_line, size_line, strict_line, unfit_line};
+ghost use Rattle.build_commands.specs.Printed.{xip_line};
 ghost use Rattle.rom_fields.specs.Failures.{Counts, one_more};
 ghost use Rattle.rom_fields.specs.Written.{WritesText};
 
+use crate::changes::ChangeCounts;
 use crate::line::print_line;
 use crate::part::Part::{Name, Number, Text};
 use crate::warnings::warning_name;
@@ -87,6 +89,33 @@ pub fn print_misfit<W: ByteWrite>(w: &mut W, line: u64, number: u32) -> Result<(
 {
     let name = layout_plan::name(number);
     print_refusal(w, b"plan", line, number, name.as_bytes())
+}
+
+/// Writes `unfit OWNERS GROUPS MODES` for a strict scan that would change so many owners, groups
+/// and modes, and flushes it.
+///
+/// # Errors
+///
+/// `Failed` if a write or the flush failed. Then a prefix of the line was written.
+#[tactic(auto, unfolding(crate::specs::Lines::line_text, crate::specs::Lines::part_text, crate::specs::Printed::unfit_line))]
+pub fn print_unfit<W: ByteWrite>(w: &mut W, counts: ChangeCounts) -> Result<(), Failed>
+    ensures text { WritesText (W.output w.old).contents (W.output w.new).contents result
+        (unfit_line counts.owners counts.groups counts.modes) }
+    ensures count { Counts (W.output w.old).failures (W.output w.new).failures result }
+    ensures flushed { OnOk result ((W.output w.new).flushes ≡ one_more (W.output w.old).flushes) }
+{
+    print_line(
+        w,
+        &[
+            Text(b"unfit "),
+            Number(counts.owners),
+            Text(b" "),
+            Number(counts.groups),
+            Text(b" "),
+            Number(counts.modes),
+            Text(b"\n"),
+        ],
+    )
 }
 
 /// Writes `size LENGTH MOST` for an image that would have LENGTH bytes and may have MOST, and

@@ -42,7 +42,7 @@ mod sources;
 mod warnings;
 
 pub use building::{
-    print_bad_manifest, print_built, print_misfit, print_size, print_strict, print_xip,
+    print_bad_manifest, print_built, print_misfit, print_size, print_strict, print_unfit, print_xip,
 };
 pub use command::{
     Closer, Companion, Ended, Job, Tools, Unbuilt, Unplaced, build_file, build_over,

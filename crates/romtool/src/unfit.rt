@@ -1,10 +1,12 @@
 //! The attributes of the scanned files that a format does not keep.
+use crate::output::errors;
 use crate::reporter::Reporter;
-use build_commands::changes::{Changes, changes_of};
+use build_commands::changes::{ChangeCounts, Changes, changes_of, count_changes};
 use build_commands::inventory::NamedFile;
+use build_commands::print_unfit;
 use command_line::ScanAll;
 use manifest::Entry;
-use rom_commands::{Ending, Status};
+use rom_commands::Status;
 use sentences::words::escaped;
 use std::alloc::{AllocError, Global};
 
@@ -48,13 +50,11 @@ impl Paths {
     }
 }
 
-/// The numbers of owners, groups and modes that are changed, their first paths, and the files that
-/// become readable by all.
+/// How many owners, groups and modes are changed, their first paths, and the files that become
+/// readable by all.
 #[derive(Drop)]
 pub struct Unfit {
-    owners: u64,
-    groups: u64,
-    modes: u64,
+    counts: ChangeCounts,
     changed: Paths,
     opened: Paths,
 }
@@ -66,11 +66,8 @@ fn counted(alloc: Global, count: u64, word: &str) -> Result<String, AllocError> 
 }
 
 impl Unfit {
-    /// Counts the changes of the file of a path.
+    /// Notes the path of a file that has changes.
     fn add(&mut self, alloc: Global, path: &[u8], changes: Changes) -> Result<(), AllocError> {
-        self.owners = self.owners.saturating_add(u64::from(changes.owner));
-        self.groups = self.groups.saturating_add(u64::from(changes.group));
-        self.modes = self.modes.saturating_add(u64::from(changes.mode));
         if changes.owner || changes.group || changes.mode {
             self.changed.add(alloc, path)?;
         }
@@ -87,9 +84,7 @@ impl Unfit {
         found: &[NamedFile],
     ) -> Result<Unfit, AllocError> {
         let mut unfit = Unfit {
-            owners: 0,
-            groups: 0,
-            modes: 0,
+            counts: count_changes(lines, found),
             changed: Paths::new(alloc),
             opened: Paths::new(alloc),
         };
@@ -101,7 +96,7 @@ impl Unfit {
 
     /// Returns whether nothing is changed.
     pub fn is_none(&self) -> bool {
-        self.changed.count == 0
+        self.counts.are_zero()
     }
 
     /// Explains what is changed, if something is.
@@ -134,9 +129,9 @@ impl Unfit {
         } else {
             "changed"
         };
-        let owners = counted(alloc, self.owners, "owner")?;
-        let groups = counted(alloc, self.groups, "group")?;
-        let modes = counted(alloc, self.modes, "mode")?;
+        let owners = counted(alloc, self.counts.owners, "owner")?;
+        let groups = counted(alloc, self.counts.groups, "group")?;
+        let modes = counted(alloc, self.counts.modes, "mode")?;
         let paths = self.changed.shown(alloc)?;
         let what = format!(in alloc;
             "--for {format} {does} {owners}, {groups} and {modes}: {paths}"
@@ -164,11 +159,8 @@ impl Unfit {
 
     /// Reports a refusal by the line `unfit OWNERS GROUPS MODES` on standard error.
     pub fn refuse(&self, reporter: &Reporter<'_>, scan: &ScanAll<'_>) -> Status {
-        let (owners, groups, modes) = (self.owners, self.groups, self.modes);
-        let Ok(line) = format!(in reporter.rt.alloc(); "unfit {owners} {groups} {modes}\n") else {
-            return reporter.say(Ending::Memory);
-        };
-        reporter.put(line.as_bytes());
+        // the status says it, even if standard error accepts no line
+        let _ = print_unfit(&mut errors(reporter.rt), self.counts);
         self.explain(reporter, scan);
         Status::Refused
     }
