@@ -1,15 +1,16 @@
 #!/usr/bin/env python3
-"""Builds the same inputs by romtool and by the programs that make images of other ways, in one run.
+"""Builds images of the same inputs, and extracts them, by romtool and by programs for other formats, in one run.
 
-    peers.py [--binary PATH] [--name TEXT] [--directory DIR] [--times N]
+    peers.py [--binary PATH] [--name TEXT] [--folder DIR] [--times N]
 
 Inputs, made in a temporary directory in DIR: one file of 200 MiB, a dozen of 16 MiB, 20,000 of 2,000 bytes, 100,000 empty
 ones, and a tree like that of /usr/bin (2,000 random programs, links). Programs: `romtool build` of a manifest that
-`romtool scan --all` printed, in romfs and in cramfs; genromfs, mkfs.erofs and mksquashfs without compression, tar and
-`cp -a`, if they are installed. Each is run N times (5), and of the least the seconds by the clock are printed, their
+`romtool scan --all` printed, and `romtool pack`, in romfs and in cramfs; genromfs, mkfs.erofs and mksquashfs without compression,
+tar and `cp -a`, if they are installed. Each is run N times (5), and of the least the seconds by the clock are printed, their
 ratio to `cp`, and the peak of memory; once as it is and once with what it wrote synchronized to the disk at the end, which
-`romtool` does of itself. Then checks and lists of what was written. It needs /usr/bin/time (Debian package `time`).
-Nothing of it is a test.
+`romtool` does of itself. Then checks and lists of what was written, and, except of the empty files, what each program extracts of
+its own image or archive: `romtool extract` synchronizes each file, and with `--no-sync` none. It needs /usr/bin/time (Debian
+package `time`). Nothing of it is a test.
 """
 
 import os
@@ -71,6 +72,8 @@ INPUTS = {
     "one file of 200 MiB": one_large, "12 files of 16 MiB": dozen, "20,000 files of 2,000 bytes": many_small,
     "100,000 empty files": many_empty, "2,000 programs and links": like_bin,
 }  # fmt: skip
+# what is not extracted: a synchronization of each of so many files takes minutes
+NOT_EXTRACTED = ("100,000 empty files",)
 
 
 def builders(binary):
@@ -79,6 +82,7 @@ def builders(binary):
     yield "tar", ["tar", "-cf", "out", "in"]
     for form in ("romfs", "cramfs"):
         yield "romtool build %s" % form, [binary, "build", form, "manifest." + form, "out"]
+        yield "romtool pack %s" % form, [binary, "pack", "--quiet", form, "in", "out"]
     yield "genromfs", ["genromfs", "-d", "in", "-f", "out"]
     yield "mkfs.erofs", ["mkfs.erofs", "--quiet", "out", "in"]
     yield "mksquashfs", ["mksquashfs", "in", "out", "-noI", "-noD", "-noF", "-noX", "-quiet", "-no-progress"]
@@ -90,6 +94,16 @@ def readers(binary):
         yield "cat %s" % form, form, ["cat", form]
         for word in ("check", "list", "map", "info"):
             yield "romtool %s, %s" % (word, form), form, [binary, word, form]
+
+
+def extractors(binary):
+    """Yields the programs that are installed and extract what a builder wrote, by its name; `out` is the directory that they make."""
+    for form in ("romfs", "cramfs"):
+        yield "romtool extract, %s" % form, form, [binary, "extract", form, "out"]
+        yield "romtool extract --no-sync, %s" % form, form, [binary, "extract", "--no-sync", form, "out"]
+    yield "tar -x", "tar", ["tar", "--one-top-level=out", "-xf", "tar"]
+    yield "unsquashfs", "mksquashfs", ["unsquashfs", "-no-progress", "-d", "out", "mksquashfs"]
+    yield "fsck.erofs --extract", "mkfs.erofs", ["fsck.erofs", "--extract=out", "mkfs.erofs"]
 
 
 def measured(words, synced, top):
@@ -123,6 +137,16 @@ def row(name, plain, synced, against):
     print("| %s | %.2f | %s | %s | %d |" % (name, plain[0], ratio, after, plain[1]), flush=True)
 
 
+def read(binary, is_extracted, times, against, top):
+    """Prints how long each program takes to read or to extract what was written."""
+    for name, written, words in readers(binary):
+        if os.path.exists("%s/%s" % (top, written)):
+            row(name, least(words, False, times, top), None, against)
+    for name, written, words in extractors(binary) if is_extracted else ():
+        if os.path.exists("%s/%s" % (top, written)) and shutil.which(words[0]):
+            row(name, least(words, False, times, top), least(words, True, times, top), against)
+
+
 def table(binary, title, times, top):
     """Prints how long each program takes for the directory `in` of another one."""
     for form in ("romfs", "cramfs"):
@@ -136,15 +160,14 @@ def table(binary, title, times, top):
         plain, synced = least(words, False, times, top), least(words, True, times, top)
         against = against or (plain[0], synced[0])
         row(name, plain, synced, against)
-        if plain is not None and name.startswith("romtool"):
+        if plain is not None and not name.startswith("cp"):
+            remove("%s/%s" % (top, name.split()[-1]))
             os.replace(top + "/out", "%s/%s" % (top, name.split()[-1]))
-    for name, form, words in readers(binary):
-        if os.path.exists("%s/%s" % (top, form)):
-            row(name, least(words, False, times, top), None, against)
+    read(binary, title not in NOT_EXTRACTED, times, against, top)
 
 
 def main():
-    reader = parser("Builds the same inputs by romtool and by other programs.")
+    reader = parser("Builds and extracts the same inputs by romtool and by other programs.")
     reader.add_argument("--name", default="", help="only the inputs whose name has this text")
     reader.add_argument("--folder", help="where the temporary directory is made")
     reader.add_argument("--times", type=int, default=5, help="how often each is run")

@@ -2,8 +2,8 @@
  *
  * romtool.h: a proved reader of romfs and cramfs images that are used in place.
  *
- * The library is libromtool.a of a release, or crates/rom_c/out/librom_c.a. docs/C.md says how it is built and linked,
- * and what is proved of it. tools/rom32 makes the library for 32-bit machines and for WebAssembly.
+ * The library is libromtool.a of a release, or what tools/library builds in a clone. C.md in docs/ of a clone, and in
+ * share/doc/romtool of an installation, says how it is linked, and what is proved of it.
  *
  * An image is checked once, or a check on another machine provides its numbers. Then paths are looked up, files are
  * opened, and their bytes are lent: they are used in the image, without a copy. What is known of an image is in a
@@ -45,54 +45,27 @@
 #define ROMTOOL_VERSION 20000 /* 10000 * major + 100 * minor + patch */
 #define ROMTOOL_VERSION_TEXT "2.0.0"
 
-/* Whether pointers have 32 bits. Twelve functions then return their results through a pointer, behind wrappers. */
+/* The number of the interface, which rises if calls or structs change. It is NOT the version of the library. */
+#define ROMTOOL_INTERFACE 3
+
+/* Each function of the library has this number in its symbol, `romtool_check_v3` for example. So a program links only with a
+ * library whose structs and answers are those of the header that it was compiled with. ROMTOOL_SYMBOL says so to the
+ * compiler; no name is a macro. romtool_library_version has the same symbol in all versions. */
+#define ROMTOOL_TEXT_OF(number) #number
+#define ROMTOOL_NUMBERED(name, number) __asm__(name "_v" ROMTOOL_TEXT_OF(number))
+#define ROMTOOL_NUMBERED_BY(name, number) ROMTOOL_NUMBERED(name, number)
+#define ROMTOOL_SYMBOL(name) ROMTOOL_NUMBERED_BY(name, ROMTOOL_INTERFACE)
+
+/* Whether pointers have 32 bits. Then the library returns structs through a pointer, and the functions with ROMTOOL_RETURNS
+ * are defined in romtool_32.h. */
 #if UINTPTR_MAX <= 0xffffffffu
 #define ROMTOOL_32 1
+#define ROMTOOL_STRUCT static inline struct
+#define ROMTOOL_RETURNS(name)
 #else
 #define ROMTOOL_32 0
-#endif
-
-/* Each function of the library has the first number of its version in its name, `romtool_check_v3` for example. So a
- * program links only with a library whose structs and answers are those of the header that it was compiled with. The
- * number is that of the version to come. romtool_library_version has the same name in all versions. */
-#define romtool_check romtool_check_v3
-#define romtool_numbers romtool_numbers_v3
-#define romtool_from_numbers romtool_from_numbers_v3
-#define romtool_is_node romtool_is_node_v3
-#define romtool_links romtool_links_v3
-#define romtool_open romtool_open_v3
-#define romtool_open_node romtool_open_node_v3
-#define romtool_read romtool_read_v3
-#define romtool_read_at romtool_read_at_v3
-#define romtool_seek romtool_seek_v3
-#define romtool_readdir romtool_readdir_v3
-#define romtool_telldir romtool_telldir_v3
-#define romtool_seekdir romtool_seekdir_v3
-#if ROMTOOL_32
-#define rom32_lookup rom32_lookup_v3
-#define rom32_lookup_within rom32_lookup_within_v3
-#define rom32_stat rom32_stat_v3
-#define rom32_stat_node rom32_stat_node_v3
-#define rom32_lookup_at rom32_lookup_at_v3
-#define rom32_readlink_node rom32_readlink_node_v3
-#define rom32_readlink rom32_readlink_v3
-#define rom32_parent rom32_parent_v3
-#define rom32_volume rom32_volume_v3
-#define rom32_fstat rom32_fstat_v3
-#define rom32_map rom32_map_v3
-#define rom32_lend rom32_lend_v3
-#else
-#define romtool_lookup romtool_lookup_v3
-#define romtool_lookup_within romtool_lookup_within_v3
-#define romtool_stat_node romtool_stat_node_v3
-#define romtool_lookup_at romtool_lookup_at_v3
-#define romtool_readlink_node romtool_readlink_node_v3
-#define romtool_readlink romtool_readlink_v3
-#define romtool_parent romtool_parent_v3
-#define romtool_volume romtool_volume_v3
-#define romtool_fstat romtool_fstat_v3
-#define romtool_map romtool_map_v3
-#define romtool_lend romtool_lend_v3
+#define ROMTOOL_STRUCT struct
+#define ROMTOOL_RETURNS(name) ROMTOOL_SYMBOL(name)
 #endif
 
 /* A size or a number of bytes. The library counts in 64 bits on every machine. In a struct on a 32-bit machine, a
@@ -109,23 +82,40 @@ extern "C" {
 #define ROMTOOL_TEXT(text) ((const uint8_t *)(text))
 #endif
 
-/* Errors. If the struct of a result has an error, all its other fields are 0. romtool_strerror returns words. */
+/* Errors. If the struct of a result has an error, all its other fields are 0. romtool_strerror returns words. The numbers are
+ * macros for uint32_t, as functions return them, and an enumeration for debuggers and `switch ((enum romtool_error)error)`. */
+enum romtool_error {
+    ROMTOOL_OK = 0,
+    ROMTOOL_ENOENT = 1,         /* a name does not exist, or the path is empty */
+    ROMTOOL_ENOTDIR = 2,        /* a name follows a node that is not a directory, or the open node is not one */
+    ROMTOOL_ELOOP = 3,          /* more than 40 symbolic links */
+    ROMTOOL_ENAMETOOLONG = 4,   /* a path of more than 4095 bytes, or a name of more than 255 */
+    ROMTOOL_EINVAL = 5,         /* no slash in front of a path; no symbolic link; a range that is empty or too long; too many entries */
+    ROMTOOL_EBADF = 6,          /* the file is not open */
+    ROMTOOL_EISDIR = 7,         /* the open node is a directory */
+    ROMTOOL_ENXIO = 8,          /* neither a directory nor a regular file */
+    ROMTOOL_ERANGE = 10,        /* the bytes do not follow one another in the image */
+    ROMTOOL_CLOSED = 13,        /* no image is open */
+    ROMTOOL_FAULT = 14,         /* the image has a fault */
+    ROMTOOL_MEMORY = 15,        /* memory was refused */
+    ROMTOOL_BUDGET = 16,        /* more names would be compared than the budget has */
+    ROMTOOL_NUMBERS = 17,       /* numbers that are not those of an image with so many bytes */
+};
 #define ROMTOOL_OK 0u
-#define ROMTOOL_ENOENT 1u        /* a name does not exist, or the path is empty */
-#define ROMTOOL_ENOTDIR 2u       /* a name follows a node that is not a directory, or the open node is not one */
-#define ROMTOOL_ELOOP 3u         /* more than 40 symbolic links */
-#define ROMTOOL_ENAMETOOLONG 4u  /* a path of more than 4095 bytes, or a name of more than 255 */
-#define ROMTOOL_EINVAL 5u        /* no slash in front of a path; no symbolic link; an empty or too long range; too many
-                                  * entries */
-#define ROMTOOL_EBADF 6u         /* the file is not open */
-#define ROMTOOL_EISDIR 7u        /* the open node is a directory */
-#define ROMTOOL_ENXIO 8u         /* neither a directory nor a regular file */
-#define ROMTOOL_ERANGE 10u       /* the bytes do not follow one another in the image */
-#define ROMTOOL_CLOSED 13u       /* no image is open */
-#define ROMTOOL_FAULT 14u        /* the image has a fault */
-#define ROMTOOL_MEMORY 15u       /* memory was refused */
-#define ROMTOOL_BUDGET 16u       /* more names would be compared than the budget has */
-#define ROMTOOL_NUMBERS 17u      /* numbers that are not those of an image with so many bytes */
+#define ROMTOOL_ENOENT 1u
+#define ROMTOOL_ENOTDIR 2u
+#define ROMTOOL_ELOOP 3u
+#define ROMTOOL_ENAMETOOLONG 4u
+#define ROMTOOL_EINVAL 5u
+#define ROMTOOL_EBADF 6u
+#define ROMTOOL_EISDIR 7u
+#define ROMTOOL_ENXIO 8u
+#define ROMTOOL_ERANGE 10u
+#define ROMTOOL_CLOSED 13u
+#define ROMTOOL_FAULT 14u
+#define ROMTOOL_MEMORY 15u
+#define ROMTOOL_BUDGET 16u
+#define ROMTOOL_NUMBERS 17u
 
 /* Formats. */
 #define ROMTOOL_ROMFS 1u
@@ -142,7 +132,7 @@ extern "C" {
 #define ROMTOOL_FIFO 7u
 
 /* An image. It is open if `status` is 1. After a check that found a fault, `fault` is its number and `at` its offset
- * (docs/FAULTS.md). `at` MAY BE OUTSIDE the image: in romfs the record of fault 11 (Bounds) may be after the last byte,
+ * (FAULTS.md). `at` MAY BE OUTSIDE the image: in romfs the record of fault 11 (Bounds) may be after the last byte,
  * and the fault 2 (Short) of no bytes is at 0. Compare `at` with `len` before you read there. */
 struct romtool_image {
     const uint8_t *data;
@@ -207,14 +197,16 @@ uint32_t romtool_library_version(void);
 /* Checks `len` bytes as a romfs or cramfs image, and opens it. Returns 0; or ROMTOOL_FAULT or ROMTOOL_MEMORY, and then
  * `image` is closed. `root` is then the node of the path `/`. For n references, the time is n log n, and the memory
  * about 100 bytes for each. An image has at most 1,048,576 references and 64 names on a path. */
-uint32_t romtool_check(struct romtool_image *image, const uint8_t *data, romtool_size len);
+uint32_t romtool_check(struct romtool_image *image, const uint8_t *data, romtool_size len)
+    ROMTOOL_SYMBOL("romtool_check");
 
 /* Writes the description of an open image: 48 bytes, from which romtool_from_numbers opens the same bytes without a
  * check. They are all 0 if no image is open. Otherwise they are these words of 32 bits, the least byte first: at 0 the
  * bytes `romtool` and a zero, at 8 the version 1 of the description, at 12 `format`, at 16 and 20 the lower and the upper
  * half of `len`, at 24 `accessible`, at 28 `root`, at 32 `references`, at 36 `depth`, and at 40 and 44 zero. */
 #define ROMTOOL_DESCRIPTION 48
-void romtool_numbers(const struct romtool_image *image, uint8_t numbers[ROMTOOL_DESCRIPTION]);
+void romtool_numbers(const struct romtool_image *image, uint8_t numbers[ROMTOOL_DESCRIPTION])
+    ROMTOOL_SYMBOL("romtool_numbers");
 
 /* Opens an image by its description, without a check: no byte of the image is read. Returns 0; or ROMTOOL_NUMBERS, and
  * then `image` is closed, if the description has another magic or version, or that of another number of bytes.
@@ -223,23 +215,12 @@ void romtool_numbers(const struct romtool_image *image, uint8_t numbers[ROMTOOL_
  * bytes (rule 1): otherwise no call on the image has a meaning, and a call may read outside of it. So protect image and
  * description together, by one signature for example. */
 uint32_t romtool_from_numbers(struct romtool_image *image, const uint8_t *data, romtool_size len,
-    const uint8_t numbers[ROMTOOL_DESCRIPTION]);
+    const uint8_t numbers[ROMTOOL_DESCRIPTION]) ROMTOOL_SYMBOL("romtool_from_numbers");
 
 /* Returns the node to which a path leads, or its kind and numbers. `follow` says whether a symbolic link as the last
  * component is followed. Errors: ROMTOOL_CLOSED, ROMTOOL_ENOENT, _ENOTDIR, _ELOOP, _ENAMETOOLONG, _EINVAL. */
-#if ROMTOOL_32
-void rom32_lookup(struct romtool_node *answer, const struct romtool_image *image, const uint8_t *path,
-    romtool_size len, bool follow);
-static inline struct romtool_node romtool_lookup(const struct romtool_image *image, const uint8_t *path,
-    romtool_size len, bool follow) {
-    struct romtool_node answer;
-    rom32_lookup(&answer, image, path, len, follow);
-    return answer;
-}
-#else
-struct romtool_node romtool_lookup(const struct romtool_image *image, const uint8_t *path, romtool_size len,
-    bool follow);
-#endif
+ROMTOOL_STRUCT romtool_node romtool_lookup(const struct romtool_image *image, const uint8_t *path, romtool_size len,
+    bool follow) ROMTOOL_RETURNS("romtool_lookup");
 
 /* The same, if the look-up compares no more names than `*budget`. The names that it compares are taken from the budget,
  * so one budget serves several look-ups. Otherwise the error is ROMTOOL_BUDGET and nothing is left of the budget. The
@@ -248,207 +229,105 @@ struct romtool_node romtool_lookup(const struct romtool_image *image, const uint
  * A component of the path, or of the text of a link, is compared with the names of its directory in their order, up to
  * the one that is equal. `.` and `..` are compared with no name. The code reads each name at most twice. The rest of a
  * look-up is bounded by the bytes of the path and of at most 40 links, each of which has at most 4095 bytes. */
-#if ROMTOOL_32
-void rom32_lookup_within(struct romtool_node *answer, const struct romtool_image *image, const uint8_t *path,
-    romtool_size len, bool follow, uint64_t *budget);
-static inline struct romtool_node romtool_lookup_within(const struct romtool_image *image, const uint8_t *path,
-    romtool_size len, bool follow, uint64_t *budget) {
-    struct romtool_node answer;
-    rom32_lookup_within(&answer, image, path, len, follow, budget);
-    return answer;
-}
-#else
-struct romtool_node romtool_lookup_within(const struct romtool_image *image, const uint8_t *path, romtool_size len,
-    bool follow, uint64_t *budget);
-#endif
+ROMTOOL_STRUCT romtool_node romtool_lookup_within(const struct romtool_image *image, const uint8_t *path, romtool_size len,
+    bool follow, uint64_t *budget) ROMTOOL_RETURNS("romtool_lookup_within");
 
 /* The kind and numbers of what a path leads to. Errors: those of romtool_lookup. */
-#if ROMTOOL_32
-void rom32_stat(struct romtool_stat *answer, const struct romtool_image *image, const uint8_t *path,
-    romtool_size len, bool follow);
-static inline struct romtool_stat romtool_stat(const struct romtool_image *image, const uint8_t *path,
-    romtool_size len, bool follow) {
-    struct romtool_stat answer;
-    rom32_stat(&answer, image, path, len, follow);
-    return answer;
-}
-#else
-struct romtool_stat romtool_stat_v3(const struct romtool_image *image, const uint8_t *path, romtool_size len,
-    bool follow);
-static inline struct romtool_stat romtool_stat(const struct romtool_image *image, const uint8_t *path,
-    romtool_size len, bool follow) {
-    return romtool_stat_v3(image, path, len, follow);
-}
-#endif
+ROMTOOL_STRUCT romtool_stat romtool_stat(const struct romtool_image *image, const uint8_t *path, romtool_size len,
+    bool follow) ROMTOOL_RETURNS("romtool_stat");
 
 /* Returns the kind and numbers of the node with this number, which a call on this image has to have returned (rule 2).
  * Such a number is that of an entry, for example. There is no look-up, so a directory's entries and their kinds are
  * listed in linear time. Error: ROMTOOL_CLOSED. */
-#if ROMTOOL_32
-void rom32_stat_node(struct romtool_stat *answer, const struct romtool_image *image, uint32_t node);
-static inline struct romtool_stat romtool_stat_node(const struct romtool_image *image, uint32_t node) {
-    struct romtool_stat answer;
-    rom32_stat_node(&answer, image, node);
-    return answer;
-}
-#else
-struct romtool_stat romtool_stat_node(const struct romtool_image *image, uint32_t node);
-#endif
+ROMTOOL_STRUCT romtool_stat romtool_stat_node(const struct romtool_image *image, uint32_t node)
+    ROMTOOL_RETURNS("romtool_stat_node");
 
 /* Returns whether a number is that of a node, so that numbers from elsewhere can be tried: of handles, for example. The
  * time grows with the number of references of the image. If no image is open, no number is. */
-bool romtool_is_node(const struct romtool_image *image, uint32_t node);
+bool romtool_is_node(const struct romtool_image *image, uint32_t node) ROMTOOL_SYMBOL("romtool_is_node");
 
 /* Returns the number of names that lead to the node with this number. It serves as `st_nlink`. A directory has one name,
  * and so has the root; 1 says of a directory that its subdirectories are not counted. It is 0 for a number that is no
  * node's, and if no image is open. The time grows with the number of references of the image. */
-uint64_t romtool_links(const struct romtool_image *image, uint32_t node);
+uint64_t romtool_links(const struct romtool_image *image, uint32_t node) ROMTOOL_SYMBOL("romtool_links");
 
 /* Returns the node of the parent of the directory with this number (rule 2). The root is its own parent. Errors:
  * ROMTOOL_CLOSED, and _ENOTDIR if the node is not a directory. The time grows with the number of references. */
-#if ROMTOOL_32
-void rom32_parent(struct romtool_node *answer, const struct romtool_image *image, uint32_t directory);
-static inline struct romtool_node romtool_parent(const struct romtool_image *image, uint32_t directory) {
-    struct romtool_node answer;
-    rom32_parent(&answer, image, directory);
-    return answer;
-}
-#else
-struct romtool_node romtool_parent(const struct romtool_image *image, uint32_t directory);
-#endif
+ROMTOOL_STRUCT romtool_node romtool_parent(const struct romtool_image *image, uint32_t directory)
+    ROMTOOL_RETURNS("romtool_parent");
 
 /* Returns where the name of the image's volume is, whose length may be 0. Error: ROMTOOL_CLOSED. */
-#if ROMTOOL_32
-void rom32_volume(struct romtool_place *answer, const struct romtool_image *image);
-static inline struct romtool_place romtool_volume(const struct romtool_image *image) {
-    struct romtool_place answer;
-    rom32_volume(&answer, image);
-    return answer;
-}
-#else
-struct romtool_place romtool_volume(const struct romtool_image *image);
-#endif
+ROMTOOL_STRUCT romtool_place romtool_volume(const struct romtool_image *image) ROMTOOL_RETURNS("romtool_volume");
 
 /* Returns the node of the entry with exactly this name, one component, in the directory with this node number (rule 2).
  * No entry is named `.` or `..`, and no link is followed. Errors: ROMTOOL_CLOSED, _ENOTDIR if the node is not a directory,
  * _ENOENT. */
-#if ROMTOOL_32
-void rom32_lookup_at(struct romtool_node *answer, const struct romtool_image *image, uint32_t directory,
-    const uint8_t *name, romtool_size len);
-static inline struct romtool_node romtool_lookup_at(const struct romtool_image *image, uint32_t directory,
-    const uint8_t *name, romtool_size len) {
-    struct romtool_node answer;
-    rom32_lookup_at(&answer, image, directory, name, len);
-    return answer;
-}
-#else
-struct romtool_node romtool_lookup_at(const struct romtool_image *image, uint32_t directory, const uint8_t *name,
-    romtool_size len);
-#endif
+ROMTOOL_STRUCT romtool_node romtool_lookup_at(const struct romtool_image *image, uint32_t directory, const uint8_t *name,
+    romtool_size len) ROMTOOL_RETURNS("romtool_lookup_at");
 
 /* Returns where the text of the symbolic link with this node number is (rule 2). There is no look-up. Errors:
  * ROMTOOL_CLOSED, and _EINVAL if the node is not a link. */
-#if ROMTOOL_32
-void rom32_readlink_node(struct romtool_place *answer, const struct romtool_image *image, uint32_t node);
-static inline struct romtool_place romtool_readlink_node(const struct romtool_image *image, uint32_t node) {
-    struct romtool_place answer;
-    rom32_readlink_node(&answer, image, node);
-    return answer;
-}
-#else
-struct romtool_place romtool_readlink_node(const struct romtool_image *image, uint32_t node);
-#endif
+ROMTOOL_STRUCT romtool_place romtool_readlink_node(const struct romtool_image *image, uint32_t node)
+    ROMTOOL_RETURNS("romtool_readlink_node");
 
 /* Returns where the text of the symbolic link is to which a path leads. Errors: those of romtool_lookup, and
  * ROMTOOL_EINVAL if it is not a link. */
-#if ROMTOOL_32
-void rom32_readlink(struct romtool_place *answer, const struct romtool_image *image, const uint8_t *path,
-    romtool_size len);
-static inline struct romtool_place romtool_readlink(const struct romtool_image *image, const uint8_t *path,
-    romtool_size len) {
-    struct romtool_place answer;
-    rom32_readlink(&answer, image, path, len);
-    return answer;
-}
-#else
-struct romtool_place romtool_readlink(const struct romtool_image *image, const uint8_t *path, romtool_size len);
-#endif
+ROMTOOL_STRUCT romtool_place romtool_readlink(const struct romtool_image *image, const uint8_t *path, romtool_size len)
+    ROMTOOL_RETURNS("romtool_readlink");
 
 /* Opens the directory or regular file to which a path leads, at its start. A symbolic link as the last component is
  * followed. Returns 0 or the error, which is also in `file`: those of romtool_lookup, and ROMTOOL_ENXIO. */
 uint32_t romtool_open(struct romtool_file *file, const struct romtool_image *image, const uint8_t *path,
-    romtool_size len);
+    romtool_size len) ROMTOOL_SYMBOL("romtool_open");
 
 /* Opens the directory or regular file with this node number, which a call on this image has to have returned (rule 2),
  * at its start. Returns 0 or the error, which is also in `file`: ROMTOOL_CLOSED, and ROMTOOL_ENXIO. */
-uint32_t romtool_open_node(struct romtool_file *file, const struct romtool_image *image, uint32_t node);
+uint32_t romtool_open_node(struct romtool_file *file, const struct romtool_image *image, uint32_t node)
+    ROMTOOL_SYMBOL("romtool_open_node");
 
 /* Returns the kind and numbers of an open file or directory. Error: ROMTOOL_EBADF. */
-#if ROMTOOL_32
-void rom32_fstat(struct romtool_stat *answer, const struct romtool_file *file);
-static inline struct romtool_stat romtool_fstat(const struct romtool_file *file) {
-    struct romtool_stat answer;
-    rom32_fstat(&answer, file);
-    return answer;
-}
-#else
-struct romtool_stat romtool_fstat(const struct romtool_file *file);
-#endif
+ROMTOOL_STRUCT romtool_stat romtool_fstat(const struct romtool_file *file) ROMTOOL_RETURNS("romtool_fstat");
 
 /* Returns where exactly the `len` bytes of an open file from its byte `off` on are, whatever its position is. If the file
  * is empty and `off` and `len` are 0, `at` and `len` of the place are 0. Errors otherwise, in this order: ROMTOOL_EBADF,
  * _EISDIR, _EINVAL (`len` is 0, or the range does not end within the file), _ERANGE. */
-#if ROMTOOL_32
-void rom32_map(struct romtool_place *answer, const struct romtool_file *file, uint64_t off, uint64_t len);
-static inline struct romtool_place romtool_map(const struct romtool_file *file, uint64_t off, uint64_t len) {
-    struct romtool_place answer;
-    rom32_map(&answer, file, off, len);
-    return answer;
-}
-#else
-struct romtool_place romtool_map(const struct romtool_file *file, uint64_t off, uint64_t len);
-#endif
+ROMTOOL_STRUCT romtool_place romtool_map(const struct romtool_file *file, uint64_t off, uint64_t len)
+    ROMTOOL_RETURNS("romtool_map");
 
 /* Returns where the next bytes of an open file are: as many of at most `max` as follow one another in the image. All
  * bytes of a romfs file do. The position moves by `len`, which is 0 at the end. Errors: ROMTOOL_EBADF, _EISDIR. */
-#if ROMTOOL_32
-void rom32_lend(struct romtool_place *answer, struct romtool_file *file, uint64_t max);
-static inline struct romtool_place romtool_lend(struct romtool_file *file, uint64_t max) {
-    struct romtool_place answer;
-    rom32_lend(&answer, file, max);
-    return answer;
-}
-#else
-struct romtool_place romtool_lend(struct romtool_file *file, uint64_t max);
-#endif
+ROMTOOL_STRUCT romtool_place romtool_lend(struct romtool_file *file, uint64_t max) ROMTOOL_RETURNS("romtool_lend");
 
 /* Copies the next bytes of an open file to `buffer`, at most `len`, and sets `count` to their number, which is 0 at the
  * end and after an error. Returns 0 or the error: ROMTOOL_EBADF, _EISDIR. */
-uint32_t romtool_read(struct romtool_file *file, uint8_t *buffer, romtool_size len, romtool_size *count);
+uint32_t romtool_read(struct romtool_file *file, uint8_t *buffer, romtool_size len, romtool_size *count)
+    ROMTOOL_SYMBOL("romtool_read");
 
 /* Copies the bytes of an open file from its byte `off` on, as romtool_read does, whatever its position is. The position
  * stays. Returns 0 or the error: ROMTOOL_EBADF, _EISDIR. */
 uint32_t romtool_read_at(const struct romtool_file *file, uint64_t off, uint8_t *buffer, romtool_size len,
-    romtool_size *count);
+    romtool_size *count) ROMTOOL_SYMBOL("romtool_read_at");
 
 /* Sets the position of an open file, also past its end. Returns 0 or the error: ROMTOOL_EBADF, _EISDIR. */
-uint32_t romtool_seek(struct romtool_file *file, uint64_t position);
+uint32_t romtool_seek(struct romtool_file *file, uint64_t position) ROMTOOL_SYMBOL("romtool_seek");
 
 /* The next entry of an open directory, without `.` and `..`, with its kind. Gives 0 or the error: ROMTOOL_EBADF,
  * _ENOTDIR. */
-uint32_t romtool_readdir(struct romtool_file *file, struct romtool_entry *entry);
+uint32_t romtool_readdir(struct romtool_file *file, struct romtool_entry *entry) ROMTOOL_SYMBOL("romtool_readdir");
 
 /* Returns the number of entries before the next one of an open directory, or 0 if no directory is open. An entry that is
  * read adds 1, so a caller may count by itself. The time grows with the number of entries. */
-uint64_t romtool_telldir(const struct romtool_file *file);
+uint64_t romtool_telldir(const struct romtool_file *file) ROMTOOL_SYMBOL("romtool_telldir");
 
 /* Sets an open directory to the position after its first `entries` entries: what romtool_telldir returned leads back to
  * the same entries, and 0 to the first one. Each number is allowed. Returns 0 or the error: ROMTOOL_EBADF, _ENOTDIR, and
  * _EINVAL if the directory has fewer entries; then the position stays. The time grows with the number of entries. */
-uint32_t romtool_seekdir(struct romtool_file *file, uint64_t entries);
+uint32_t romtool_seekdir(struct romtool_file *file, uint64_t entries) ROMTOOL_SYMBOL("romtool_seekdir");
 
 /* Returns an error of a path or of an open file as Linux numbers it in errno.h, and EIO (5) for a fault, for no open image,
- * for a budget that is used up and for numbers that are refused. */
+ * for a budget that is used up and for numbers that are refused. ROMTOOL_ERRNO returns the numbers of the program's own
+ * errno.h, which it has to include: those of ELOOP and ENAMETOOLONG are others in newlib, for example. */
+#define ROMTOOL_ERRNO(error) romtool_errno_with(error, ELOOP, ENAMETOOLONG)
 static inline int romtool_errno(uint32_t error) {
     switch (error) {
     case ROMTOOL_OK: return 0;
@@ -464,6 +343,10 @@ static inline int romtool_errno(uint32_t error) {
     case ROMTOOL_MEMORY: return 12;
     default: return 5;
     }
+}
+
+static inline int romtool_errno_with(uint32_t error, int eloop, int enametoolong) {
+    return error == ROMTOOL_ELOOP ? eloop : error == ROMTOOL_ENAMETOOLONG ? enametoolong : romtool_errno(error);
 }
 
 /* Returns a kind and permissions as `st_mode` has them in Linux; the kind bits are 0 if `kind` is no kind. */
@@ -615,6 +498,10 @@ static inline uint32_t romtool_open_within_str(struct romtool_file *file, const 
     const char *path, uint64_t *budget) {
     return romtool_open_within(file, image, ROMTOOL_TEXT(path), romtool_path_len(path), budget);
 }
+
+#if ROMTOOL_32
+#include "romtool_32.h"
+#endif
 
 /* The layout of the library. A compiler that lays out the structs in another way stops here. */
 typedef char romtool_layout_is_right[offsetof(struct romtool_image, len) == 8 && sizeof(struct romtool_image) == 48

@@ -2,15 +2,15 @@
  *
  * romtool_heap.h: the memory of romtool_check, for programs with their own heap.
  *
- * The library allocates memory by three functions, which it does not contain. Link one of these with it:
+ * The library allocates memory by three functions, which librom_c.a does not contain. Link one of these with it:
  *   - c/heap.c, over malloc, realloc and free;
  *   - c/area.c, over an array of the caller's, for firmware without malloc;
  *   - the kit's liblibc_c.a, which is c/heap.c for x86-64 Linux;
  *   - your own three functions, which have to do what is said below.
  *
  * A heap that does not do this is not noticed: the check may then refuse a valid image, or accept an invalid one, and
- * no contract of the library holds. tests/c/recording.c is a heap that checks each call: if you write a heap, run your
- * images with it first.
+ * no contract of the library holds. recording.c (an example of a release, in tests/c of a clone) is a heap that checks
+ * each call: if you write a heap, run your images with it first.
  *
  * A block belongs to the library from the call that returns it until rattle_dealloc frees it. Meanwhile
  *   - no other block has any of its bytes, and nobody else writes to them;

@@ -36,7 +36,7 @@
 #endif
 
 enum { FAULT = 1, USAGE = 2, SYSTEM = 3 }; /* exit statuses */
-enum { MAX_READ };                         /* the key of an option */
+enum { MAX_READ, OWNER, GROUP, MASK, OWN_OPTIONS }; /* the keys of options with a number */
 
 struct name {
     uint32_t at; /* the offset of its bytes in the image */
@@ -60,7 +60,11 @@ static struct name *names;
 static uint32_t *sorted;
 static struct inode *inodes;
 static uint32_t names_count, inodes_count;
-static unsigned int max_read; /* the number of the option, which libfuse wants to be told twice; or 0 */
+/* The numbers of options, and whether they are given. libfuse wants to be told max_read twice. */
+static struct {
+    int is_given;
+    uint32_t number;
+} given[OWN_OPTIONS];
 
 /* Truncation. If bytes of the image are gone, the system sends SIGBUS to the thread that reads them. The request that it
  * serves then fails with EIO; before anything is mounted, the program ends with a message. Bytes that are sent without a
@@ -260,10 +264,10 @@ static int stat_of(const struct inode *inode, struct stat *out) {
         return EIO;
     }
     out->st_ino = stat.ino;
-    out->st_mode = type_of(stat.kind) | stat.mode;
+    out->st_mode = type_of(stat.kind) | (given[MASK].is_given ? 0777 & ~given[MASK].number : stat.mode);
     out->st_nlink = inode->links;
-    out->st_uid = stat.uid;
-    out->st_gid = stat.gid;
+    out->st_uid = given[OWNER].is_given ? given[OWNER].number : stat.uid;
+    out->st_gid = given[GROUP].is_given ? given[GROUP].number : stat.gid;
     out->st_size = stat.size;
     out->st_rdev = makedev(stat.major, stat.minor);
     out->st_blksize = 4096;
@@ -282,8 +286,8 @@ static int param_of(const struct inode *inode, struct fuse_entry_param *out) {
 
 static void op_init(void *data, struct fuse_conn_info *connection) {
     (void)data;
-    if (max_read) {
-        connection->max_read = max_read;
+    if (given[MAX_READ].is_given) {
+        connection->max_read = given[MAX_READ].number;
     }
     connection->want |= connection->capable & FUSE_CAP_CACHE_SYMLINKS;
 }
@@ -503,11 +507,86 @@ struct words {
     char *directory;
 };
 
+/* Puts a text on standard error. At a terminal, all but printable ASCII is shown as `%` and two hexadecimal digits. */
+static void put_error(const char *text) {
+    const int is_shown = isatty(STDERR_FILENO);
+    for (; *text; text++) {
+        const unsigned char byte = (unsigned char)*text;
+        if (is_shown && (byte < 0x20 || byte > 0x7e)) {
+            fprintf(stderr, "%%%02X", byte);
+        } else {
+            fputc(byte, stderr);
+        }
+    }
+}
+
+/* Puts a line on standard error: a text of others, and what is said of it. */
+static void say_of(const char *text, const char *what) {
+    fputs("romtool-mount: ", stderr);
+    put_error(text);
+    fputs(what, stderr);
+}
+
+static const char *fault_sentence(uint32_t fault) {
+    switch (fault) {
+    /* made by tools/tables faults */
+    case 1u: return "the image has more than 1,048,576 references"; /* 1 TooMany */
+    case 2u: return "the file is shorter than a superblock, which has 32 bytes in romfs and 76 in cramfs"; /* 2 Short */
+    case 3u: return "the first bytes are those of neither romfs nor cramfs"; /* 3 Magic */
+    case 4u: return "the stated size is smaller than a superblock or greater than the file"; /* 4 Size */
+    case 5u: return "the words of the first 512 bytes do not sum to 0"; /* 5 Sum */
+    case 6u: return "a flag above 800 (hexadecimal) is set"; /* 6 Flags */
+    case 7u: return "the stored CRC-32 is not the CRC-32 of the bytes"; /* 7 Crc */
+    case 8u: return "the superblock lacks the text Compressed ROMFS"; /* 8 Signature */
+    case 9u: return "the root is not where the format says, or is not a directory"; /* 9 Root */
+    case 11u: return "a record, or a part that it names, is outside the image"; /* 11 Bounds */
+    case 12u: return "the words of a file header and its name do not sum to 0"; /* 12 HeaderSum */
+    case 13u: return "a name is empty, has no end, or contains a slash or a zero byte"; /* 13 BadName */
+    case 14u: return "the upper four bits of a mode do not stand for a kind of file"; /* 14 Kind */
+    case 15u: return "the text of a symbolic link is empty or longer than 4,095 bytes"; /* 15 LinkSize */
+    case 16u: return "a block is compressed, or its block pointer is not direct; romtool reads neither"; /* 16 BlockKind */
+    case 17u: return "an entry, or its name, goes past the end of its list"; /* 17 ListEnd */
+    case 20u: return "two references lead to one record, or references form a loop"; /* 20 Twice */
+    case 21u: return "the path of an entry has more than 64 names"; /* 21 TooDeep */
+    case 22u: return "two parts of the image share bytes"; /* 22 Overlap */
+    case 23u: return "two entries of one directory have the same name"; /* 23 DupName */
+    case 24u: return "a name . or .. is not allowed there, or leads to the wrong directory"; /* 24 Dot */
+    case 25u: return "a hard link leads to nothing, to a directory, or through more than 8 links"; /* 25 HardLink */
+    case 26u: return "in a list that has to be sorted, a name is less than the name before it"; /* 26 Unsorted */
+    /* end */
+    default: return "no rule has this number";
+    }
+}
+
+/* Explains the fault of the image of this name, if standard error is a terminal. */
+static void explain_fault(const char *path) {
+    if (isatty(STDERR_FILENO)) {
+        say_of(path, ": ");
+        fprintf(stderr, "%s (%u) at %u: %s\n", romtool_fault_name(image.fault), image.fault, image.at, fault_sentence(image.fault));
+    }
+}
+
+/* Keeps the number of an option, that of a mask in octal. Returns -1 if it is none, or greater than any user's, which is 2^32 - 2. */
+static int keep_number(const char *text, int key) {
+    static const unsigned long long most[OWN_OPTIONS] = {UINT32_MAX, UINT32_MAX - 1, UINT32_MAX - 1, 0777};
+    const char *digits = strchr(text, '=') + 1;
+    char *end;
+    errno = 0;
+    const unsigned long long number = strtoull(digits, &end, key == MASK ? 8 : 10);
+    if (*digits < '0' || *digits > '9' || *end || errno || number > most[key]) {
+        say_of(text, " is not a number for this option\n");
+        return -1;
+    }
+    given[key].is_given = 1;
+    given[key].number = (uint32_t)number;
+    return key == MAX_READ; /* libfuse does not know the others */
+}
+
 static int word(void *data, const char *text, int key, struct fuse_args *out) {
     struct words *words = data;
     (void)out;
-    if (key == MAX_READ) {
-        max_read = (unsigned int)strtoul(strchr(text, '=') + 1, NULL, 10);
+    if (key >= 0 && key < OWN_OPTIONS) {
+        return keep_number(text, key);
     }
     if (key != FUSE_OPT_KEY_NONOPT) {
         return 1;
@@ -529,7 +608,9 @@ static int usage(void) {
 }
 
 static int system_error(const char *path) {
-    fprintf(stderr, "romtool-mount: %s: %s\n", path, strerror(errno));
+    const char *why = strerror(errno);
+    say_of(path, ": ");
+    fprintf(stderr, "%s\n", why);
     return SYSTEM;
 }
 
@@ -572,6 +653,8 @@ static int open_image(const char *path) {
     const uint32_t error = romtool_check(&image, bytes, (romtool_size)size);
     if (error == ROMTOOL_FAULT) {
         printf("fault %u %s at %u\n", image.fault, romtool_fault_name(image.fault), image.at);
+        fflush(stdout);
+        explain_fault(path);
         return FAULT;
     }
     errno = ENOMEM;
@@ -609,6 +692,7 @@ static int mount_and_serve(struct fuse_session *session, const struct fuse_cmdli
 static int is_shown(const struct fuse_cmdline_opts *options) {
     if (options->show_help) {
         puts("usage: romtool-mount IMAGE DIR [-f] [-s] [-d] [-o OPTION[,OPTION]..]\n");
+        puts("    -o uid=N, gid=N        the owner and the group of all files\n    -o umask=M             the permissions that no file has, in octal");
         fuse_cmdline_help();
         fuse_lowlevel_help();
     } else if (options->show_version) {
@@ -620,8 +704,8 @@ static int is_shown(const struct fuse_cmdline_opts *options) {
 
 /* Returns the exit status. The words are judged before the image is read, and the image before anything is mounted. */
 static int run(struct fuse_args *args, struct words *words, struct fuse_cmdline_opts *options) {
-    static const struct fuse_opt known[] = {
-        FUSE_OPT_KEY("rw", FUSE_OPT_KEY_DISCARD), FUSE_OPT_KEY("max_read=", MAX_READ), FUSE_OPT_END};
+    static const struct fuse_opt known[] = {FUSE_OPT_KEY("rw", FUSE_OPT_KEY_DISCARD), FUSE_OPT_KEY("max_read=", MAX_READ),
+        FUSE_OPT_KEY("uid=", OWNER), FUSE_OPT_KEY("gid=", GROUP), FUSE_OPT_KEY("umask=", MASK), FUSE_OPT_END};
     if (fuse_opt_parse(args, words, known, word)) {
         return usage();
     }

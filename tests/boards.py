@@ -20,6 +20,8 @@ import tarfile
 import tempfile
 
 import c
+import glue
+from files import repository_text
 from harness import SECONDS, Counts, missing, parser, program_of
 
 sys.path.insert(0, os.path.join(c.TOP, "tools"))
@@ -37,6 +39,8 @@ PROGRAMS = (
     ("thumbv7m", ["arm-none-eabi-gcc", "-mthumb", "-mcpu=cortex-m3"], ["qemu-arm"]),
     ("thumbv7m", ["arm-none-eabi-gcc", "-mthumb", "-mcpu=cortex-m4", "-mfloat-abi=hard", "-mfpu=fpv4-sp-d16"], ["qemu-arm"]),
     ("thumbv7m", ["arm-none-eabi-gcc", "-mthumb", "-mcpu=cortex-m7", "-mfloat-abi=hard", "-mfpu=fpv5-d16"], ["qemu-arm"]),
+    ("thumbv6m", ["arm-none-eabi-gcc", "-mthumb", "-mcpu=cortex-m23"], ["qemu-arm"]),
+    ("thumbv7m", ["arm-none-eabi-gcc", "-mthumb", "-mcpu=cortex-m33"], ["qemu-arm"]),
     ("armv7a", ["arm-none-eabi-gcc", "-march=armv7-a", "-marm", "-mfloat-abi=soft"], ["qemu-arm"]),
     ("armv7a", ["arm-linux-gnueabihf-gcc", "-march=armv7-a", "-marm", "-mfpu=vfpv3-d16"], ["qemu-arm"]),
     ("aarch64", ["aarch64-linux-gnu-gcc", "-fno-pie", "-mgeneral-regs-only", "-mstrict-align"], ["qemu-aarch64"]),
@@ -187,11 +191,12 @@ def headers(release, counts):
         counts.skips("what the archives have: there is no %s" % tool)
         return
     text = ""
-    for name in ("romtool.h", "romtool_heap.h"):
+    for name in ("romtool.h", "romtool_32.h", "romtool_heap.h"):
         with open("%s/include/%s" % (release, name), encoding="utf-8") as it:
             text += re.sub(r"/\*.*?\*/|static inline [^{;]*\{", "", it.read(), flags=re.S)
-    symbols = dict(re.findall(r"^#define (rom\w+) (\w+_v\d+)$", text, re.M))
-    declared = {symbols.get(it, it) for it in re.findall(r"\b((?:romtool|rom32|rattle)_\w+)\([^;{()]*\);", text)}
+    number = re.search(r"^#define ROMTOOL_INTERFACE (\d+)$", text, re.M)[1]
+    declared = set(re.findall(r"^(?:struct )?\w+ ((?:romtool|rattle)_\w+)\([^;{()]*\);", text, re.M))
+    declared |= {it + "_v" + number for it in re.findall(r'ROMTOOL_(?:SYMBOL|RETURNS)\("(\w+)"\);', text)}
     with open(release + "/src/area.c", encoding="utf-8") as it:
         of_area = set(re.findall(r"\b((?:romtool|rattle)_\w+)\([^;{()]*\) \{", it.read()))
     counts.equal("functions that are declared", len(declared) > 25, True)
@@ -262,12 +267,19 @@ def in_node(release, top, counts):
 def documents(release, top, counts):
     """README.md is short, its example compiles, TARGETS.md has a row for each archive, and no link leads out of the release."""
     texts = {}
-    for name in ("README.md", "TARGETS.md", "OTHER-TARGETS.md"):
-        with open("%s/%s" % (release, name), encoding="utf-8") as it:
-            texts[name] = it.read()
-        counts.equal("values that %s lacks" % name, re.findall(r"@[A-Z]+@", texts[name]), [])
-        links = re.findall(r"\]\(([^)#:]+)", texts[name])
-        counts.equal("links of " + name, [it for it in links if not os.path.exists(os.path.join(release, it))], [])
+    for path in (os.path.join(at, it) for at, _, names in os.walk(release) for it in names if it.endswith(".md")):
+        with open(path, encoding="utf-8") as it:
+            text = it.read()
+        name = os.path.relpath(path, release)
+        counts.equal("values that %s lacks" % name, re.findall(r"@[A-Z]+@", text), [])
+        links = [it for it in re.findall(r"\]\(([^)#:\s]+)[^):]*\)", text) if "//" not in it]
+        counts.equal("links of " + name, [it for it in links if not os.path.exists(os.path.join(os.path.dirname(path), it))], [])
+        texts[name] = text
+    counts.equal("documents", sorted(texts), ["OTHER-TARGETS.md", "README.md", "TARGETS.md", "docs/C.md", "docs/FAULTS.md"])
+    measured = re.findall(r"^\| Cortex-M3 .*$", repository_text("docs/C.md"), re.M)
+    counts.equal("stack and room in TARGETS.md", re.findall(r"^\| Cortex-M3 .*$", texts["TARGETS.md"], re.M), measured)
+    told = set(re.findall(r"cortex-m\d+", texts["TARGETS.md"])) - {"cortex-m4", "cortex-m7"}
+    counts.equal("Cortex-M in TARGETS.md", told, {"cortex-m" + it for it in ("0", "1", "3", "23", "33", "55")})
     counts.equal("lines of README.md", len(texts["README.md"].splitlines()) <= 60, True)
     rows = re.findall(r"^\| `(lib/\S+)` \| [^|]+ \|((?: [\d,]+ \|)+)$", texts["TARGETS.md"], re.M)
     there = [os.path.join(at, it) for at, _, names in os.walk(release + "/lib") for it in names if it.endswith(".a")]
@@ -281,6 +293,18 @@ def documents(release, top, counts):
         ["cc", "-std=c99", *WARNED, "-Wno-missing-prototypes", "-I" + release + "/include", "-c", top + "/example.c", "-o", top + "/e.o"],
         counts,
     )
+
+
+def recipes(release, top, counts):
+    """The recipes of the release compile over its headers, with stubs of the systems' headers, for a machine of 32 bits."""
+    if tool := missing("arm-none-eabi-gcc"):
+        counts.skips("the recipes: there is no %s" % tool)
+        return
+    for name, (recipe, program) in glue.PARTS.items():
+        folder = os.path.join(release, "recipes", name)
+        words = ["arm-none-eabi-gcc", "-mthumb", "-mcpu=cortex-m33", "-std=gnu99", *WARNED, "-I" + release + "/include", "-I" + folder]
+        words += ["-Dloff_t=long long", "-I" + os.path.dirname(program), "-c", os.path.join(folder, os.path.basename(recipe))]
+        c.compiled([*words, "-o", top + "/recipe.o"], counts)
 
 
 def main():
@@ -301,6 +325,7 @@ def main():
             headers(release, counts)
             for_kernels(release, counts)
             programs(release, top, counts)
+            recipes(release, top, counts)
             by_packages(release, top, counts)
             other_target(release, top, counts)
             in_node(release, top, counts)

@@ -52,17 +52,36 @@ AARCH64 = "aarch64-unknown-linux-gnu"
 TOPICS = ("program", "romfs", "cramfs", "exact", "many", "serve")
 NEEDS = {"memcpy", "memmove", "memset", "rattle_alloc", "rattle_dealloc", "rattle_realloc"}
 CPLUSPLUS = """#include "romtool_heap.h"
+#include "own.h"
 int main() {
+    own mine;
     romtool_image image = ROMTOOL_INIT;
     romtool_file file = ROMTOOL_INIT;
     struct romtool_stat stat = romtool_stat_str(&image, "/", true);
     if (stat.error != ROMTOOL_CLOSED || romtool_open_str(&file, &image, "/") != ROMTOOL_CLOSED) {
         return 2;
     }
-    return romtool_check(&image, nullptr, 0) == ROMTOOL_FAULT && image.fault == 2 ? 0 : 1;
+    return romtool_check(&image, nullptr, 0) == ROMTOOL_FAULT && image.fault == 2 ? mine.romtool_open() : 1;
+}
+"""
+# a class that another file defines, which does not include the header
+OWN = ("class own { public: int romtool_open(); };\n", '#include "own.h"\nint own::romtool_open() { return 0; }\n')
+# a switch over all errors except one
+SWITCH = """#include <errno.h>
+#include "romtool.h"
+int main(void) {
+    volatile uint32_t error = ROMTOOL_MEMORY;
+    switch ((enum romtool_error)error) {
+%s    }
+    return ROMTOOL_ERRNO(error) != ENOMEM || ROMTOOL_ERRNO(ROMTOOL_ELOOP) != ELOOP || ROMTOOL_ERRNO(ROMTOOL_ENAMETOOLONG) != ENAMETOOLONG;
 }
 """
 FORMATS = ("romfs", "cramfs", "cramfs-be")
+# what first.c says of paths without an entry
+NO_ENTRY = (
+    ("/empty", "an empty file"), ("/none", "no such file or directory"), ("/d", "is a directory"), ("/init/x", "not a directory"),
+    ("/d/null", "neither a directory nor a regular file"), ("/data", "not executable"),
+)  # fmt: skip
 CONTENT = bytes(range(250)) * 24
 # a directory for each format: a program that is used in place, a link and a device
 MANIFEST = b"""dir / 0755 0 0
@@ -147,8 +166,9 @@ def standards(top, archive, counts):
     """The headers in each language and by each compiler; in C++ by a program, which is run."""
     with open(top + "/header.c", "w", encoding="utf-8") as file:
         file.write('#include "romtool_heap.h"\nint main(void) { return 0; }\n')
-    with open(top + "/header.cc", "w", encoding="utf-8") as file:
-        file.write(CPLUSPLUS)
+    for name, text in (("header.cc", CPLUSPLUS), ("own.h", OWN[0]), ("own.cc", OWN[1])):
+        with open(os.path.join(top, name), "w", encoding="utf-8") as file:
+            file.write(text)
     for compiler in ("cc", "clang"):
         if not shutil.which(compiler):
             counts.skips("the headers in C by %s: it is not installed" % compiler)
@@ -160,7 +180,7 @@ def standards(top, archive, counts):
             counts.skips("the headers in C++ by %s: it is not installed" % compiler)
             continue
         for standard in ("c++11", "c++14", "c++17", "c++20"):
-            words = [compiler, "-std=" + standard, *STRICTER, "-Wold-style-cast", top + "/header.cc", archive, heap()]
+            words = [compiler, "-std=" + standard, *STRICTER, "-Wold-style-cast", top + "/header.cc", top + "/own.cc", archive, heap()]
             if compiled([*words, "-o", top + "/header"], counts):
                 counts.equal("%s in %s" % (compiler, standard), said([top + "/header"]).returncode, 0)
 
@@ -178,6 +198,23 @@ def header(binary, top, program, counts):
     words = [it for it, line in enumerate(lines[41:]) if line != "unknown error"]
     counts.equal("errors in words", words, [0, 1, 2, 3, 4, 5, 6, 7, 8, 10, 13, 14, 15, 16, 17])
     counts.equal("errors in words of their own", len(set(lines[41:])), len(words) + 1)
+
+
+def errors(top, counts):
+    """The errors are the same as an enumeration and as macros. A compiler says which one a switch lacks."""
+    with open(INCLUDE + "/romtool.h", encoding="utf-8") as file:
+        text = file.read()
+    words = re.search(r"^enum romtool_error \{\n(.*?)^\};\n((?:#define [^\n]*\n)+)", text, re.M | re.S)
+    names = dict(re.findall(r"(ROMTOOL_\w+) = (\d+)", words[1]))
+    counts.equal("errors as macros", dict(re.findall(r"^#define (\w+) (\d+)u$", words[2], re.M)), names)
+    for lacks in ("ROMTOOL_BUDGET", None):
+        with open(top + "/switch.c", "w", encoding="utf-8") as file:
+            file.write(SWITCH % "".join("    case %s: break;\n" % it for it in names if it != lacks))
+        done = said(["cc", "-std=c99", *STRICT, top + "/switch.c", "-o", top + "/switch"])
+        counts.equal(
+            "a switch without " + str(lacks), (done.returncode != 0, str(lacks).encode() in done.stdout), (bool(lacks), bool(lacks))
+        )
+    counts.equal("errors as errno.h has them", said([top + "/switch"]).returncode, 0)
 
 
 def needs(archive, counts):
@@ -241,7 +278,8 @@ def cases(binary, answers, counts):
 
 def build_all(binary, top, counts):
     """Builds a directory in each format."""
-    for name, held in (("manifest", MANIFEST), ("init", CONTENT), ("empty", b"")):
+    data = MANIFEST + b"file /data 0644 0 0 4 init\n"
+    for name, held in (("manifest", MANIFEST), ("entries", data), ("init", CONTENT), ("empty", b"")):
         with open(os.path.join(top, name), "wb") as file:
             file.write(held)
     for form in FORMATS:
@@ -275,18 +313,27 @@ def other_major(top, archive, counts):
     source = os.path.join(SOURCES, "first.c")
     for number, links in ((3, True), (2, False), (4, False)):
         with open(top + "/other/romtool.h", "w", encoding="utf-8") as file:
-            file.write(re.sub(r"_v3\b", "_v%d" % number, text))
+            file.write(re.sub(r"(?<=#define ROMTOOL_INTERFACE )3$", str(number), text, flags=re.M))
         done = said(["cc", "-std=c99", "-I" + top + "/other", source, archive, heap(), "-o", top + "/linked"])
         counts.equal("a header of version %d" % number, (done.returncode == 0, b"romtool_check_v" in done.stdout), (links, not links))
 
 
 def entries(binary, top, first, counts):
-    """Where the entry of a program is, of each format, as `map` says it."""
+    """Where the entry of a program is, of each format, as `map` says it, or what is missing."""
     for form in FORMATS:
-        told = said([binary, "serve", form], cwd=top, input=b"open /init\nmap 0 0 4\n").stdout.split()
+        said([binary, "build", form, "entries", "entries.image"], cwd=top)
+        told = said([binary, "serve", "entries.image"], cwd=top, input=b"open /init\nmap 0 0 4\n").stdout.split()
         wanted = b"at %s of the image: 00 01 02 03\n" % told[3]
-        counts.equal("the entry in " + form, said([first, form, "/init"], cwd=top).stdout, wanted)
-        counts.equal("no entry in " + form, said([first, form, "/empty"], cwd=top).returncode, 1)
+        counts.equal("the entry in " + form, said([first, "entries.image", "/init"], cwd=top).stdout, wanted)
+        for path, lacks in NO_ENTRY:
+            done = said([first, "entries.image", path], cwd=top)
+            counts.equal("no entry %s in %s" % (path, form), (done.returncode, done.stdout.decode()), (1, "%s: %s\n" % (path, lacks)))
+    for words, lacks in ((["none", "/"], "none: No such file or directory\n"), ([], "first IMAGE PATH\n")):
+        done = said([first, *words], cwd=top)
+        counts.equal("an entry of %s" % words, (done.returncode, done.stdout.decode()), (2, lacks))
+    done = said([first, "entries", "/"], cwd=top)
+    fault = "entries: the image has a fault: 3 Magic at 0\n"
+    counts.equal("an entry of no image", (done.returncode, done.stdout.decode()), (1, fault))
 
 
 def by_nodes(binary, top, nodes, counts):
@@ -527,6 +574,7 @@ def main():
         return counts.close()
     with tempfile.TemporaryDirectory(prefix="romtool-") as top:
         needs(archive, counts)
+        errors(top, counts)
         standards(top, archive, counts)
         words = sanitizers(top)
         names = ("answers", "closed", "numbers", "header", "calls")

@@ -3,15 +3,14 @@
 
     docs.py [--binary PATH]
 
-- Each block of a document that is marked `console` is run. Its lines that begin with `$ ` are given to a shell, one after the
-  other, in one new directory for each document, with `romtool` on the path. They have to print what the block shows. The blocks
-  of the README are also run as an ordinary user.
+- Each command line of a document is run as an ordinary user, or command_lines.py says why it is not; those of the README also as
+  root. They have to print what the document shows, and each option that a document shows of a subcommand has to be one of it.
 - Each line of a block that is marked `from=FILE` has to be in that file, in this order.
 - Each link has to lead to a file that exists, and to a heading of it.
 - Each function that is named by its crate has to exist, and others can name it so. Each function and type in the table of what
   is proved has to be declared in its crate, a method in its type.
 - The picture in ARCHITECTURE is what tools/picture makes. tools/tables has a line for each crate and each file of definitions, and
-  tools/reading_list prints its list. tests/clauses.txt is what tools/clauses prints.
+  tools/reading_list prints its list, whose size PROVED has. tests/clauses.txt is what tools/clauses prints.
 - The table of parts in GATE.md has to name the parts of tests/parts, in any order.
 - Each fault of the table in tools/faults.py has a section and a phase in FAULTS.md, and a row in FORMATS.md. For each format of
   its rows a case of tests/cases has it. What is made of the table has to be as `tools/tables faults` writes it.
@@ -23,14 +22,13 @@ The last line is `N passed, M failed`, with `, K skipped`.
 import glob
 import os
 import re
-import shutil
 import subprocess
 import sys
-import tempfile
 
+import command_lines
 from files import repository_text as text_of
-from harness import HERE, SECONDS, Counts, parser, program_of
-from rooms import NOBODY
+from harness import HERE, Counts, parser, program_of
+from rooms import IS_ROOT, NOBODY
 from run import load
 
 TOP = os.path.dirname(HERE)
@@ -38,54 +36,45 @@ sys.path.insert(0, os.path.join(TOP, "tools"))
 
 import faults  # noqa: E402
 
-BLOCK = re.compile(r"^```(console|\w+ from=\S+)\n(.*?)^```$", re.M | re.S)
+BLOCK = re.compile(r"^```\w+ from=(\S+)\n(.*?)^```$", re.M | re.S)
 LINK = re.compile(r"\]\(([^)\s]+)\)")
 # what documents name of the toolchain
 FOREIGN = ("std", "core", "io", "fs", "std_io", "clap")
 # where a name is declared, or a trait of std is given to a type
-DECLARED = r"\b(?:fn|struct|enum|trait|type|const|mod) %s\b|\bimpl %s for "
+DECLARED = r"\b(?:fn|struct|enum|trait|type|const|mod) %s\b|\bimpl(?:<[^{;]*>)? %s for "
 GUIDE = "CONTRIBUTING.md"
+# whose commands need the library for C
+OF_LIBRARY = ("docs/C.md",)
 # what a new fault changes without naming it
 UNNAMED = ("CHANGELOG.md",)
 
 
 def documents():
     """Returns the documents, by their paths in the repository."""
-    folders = ("", "docs/", "docs/internals/", "bench/", "crates/*/", "bindings/*/", "recipes/", "web/")
+    folders = ("", "docs/", "docs/internals/", "bench/", "crates/*/", "bindings/*/", "recipes/", "tests/*/", "web/")
     found = [it for folder in folders for it in glob.glob("%s/%s*.md" % (TOP, folder))]
     return sorted(os.path.relpath(it, TOP) for it in found)
 
 
-def commands(block):
-    """Returns the commands of a session, each with what it prints."""
-    found = []
-    for line in block.splitlines(keepends=True):
-        if line.startswith("$ "):
-            found.append([line[2:], ""])
-        else:
-            found[-1][1] += line
-    return found
+def run(name, binary, counts):
+    """Runs the command lines of a document as an ordinary user, and those of the README also as root if this is root."""
+    if not command_lines.commands(text_of(name)) and name not in command_lines.SPOKEN:
+        return
+    if name in OF_LIBRARY:
+        counts.skips("the commands of %s: tests/unproved.py runs them, since it has the library for C" % name)
+    elif name == "README.md" and not os.path.exists("/bin/busybox"):
+        counts.skips("the commands of README.md: there is no /bin/busybox (Debian: busybox-static)")
+    else:
+        for user in ([NOBODY, 0] if name == "README.md" else [NOBODY]) if IS_ROOT else [0]:
+            command_lines.run_document(name, binary, counts, user)
 
 
-def session(name, blocks, binary, counts, user=0):
-    """Runs the sessions of a document as this user, whose number and group are shown as root's."""
-    with tempfile.TemporaryDirectory(prefix="romtool-") as top:
-        os.chmod(top, 0o755)
-        os.mkdir(top + "/bin")
-        os.mkdir(top + "/here")
-        os.chown(top + "/here", user, user)
-        shutil.copy(binary, top + "/bin/romtool")
-        path = {**os.environ, "PATH": "%s/bin:%s" % (top, os.environ["PATH"])}
-        more = {"cwd": top + "/here", "env": path, "timeout": SECONDS, "umask": 0o022}
-        more |= {"user": user, "group": user, "extra_groups": []} if user else {}
-        for command, wanted in [it for block in blocks for it in commands(block)]:
-            done = subprocess.run(command, shell=True, stdout=subprocess.PIPE, stderr=subprocess.STDOUT, **more)
-            printed = done.stdout.decode(errors="replace")
-            printed = re.sub(r" %d 255\b" % user, " 0 0", printed) if user else printed
-            if printed == wanted:
-                counts.passes()
-            else:
-                counts.fails("%s: %s (user %d)" % (name, command.strip(), user), [repr(printed)])
+def packages(counts):
+    """Checks that the packages of the quick tests are some of all, in order, and that nothing else is in both files."""
+    every, quick = (text_of("tests/packages" + it).splitlines() for it in ("", "-quick"))
+    counts.equal("tests/packages-quick names packages of tests/packages", [it for it in quick if it not in every], [])
+    for it in (every, quick):
+        counts.equal("packages in order", it, sorted(set(it)))
 
 
 def quotes(name, file, block, counts):
@@ -225,8 +214,10 @@ def made_parts(counts):
     files = sorted(os.path.relpath(it, TOP) for it in glob.glob(TOP + "/crates/*/specs/*.antt") if not it.endswith("/Lib.antt"))
     told = re.findall(r"^(\S+): \S", output_of(["tools/tables", "definitions"]) or "", re.M)
     counts.equal("tools/tables has a line for each file of definitions", sorted(told), files)
-    steps = re.findall(r"^(\d)\. ", output_of(["tools/reading_list"]) or "", re.M)
-    counts.equal("tools/reading_list prints its steps", "".join(steps), "123456789")
+    listed = output_of(["tools/reading_list"]) or ""
+    counts.equal("tools/reading_list prints its steps", "".join(re.findall(r"^(\d)\. ", listed, re.M)), "123456789")
+    told = re.findall(r"^The definitions of the theorem have (.*? files)", text_of("docs/internals/PROVED.md"), re.M)
+    counts.equal("PROVED.md has the size of `tools/reading_list --write`", told, re.findall(r"^What .* by (.*? files), ", listed))
 
 
 def clauses(counts):
@@ -342,21 +333,16 @@ def fault_table(counts):
 def main():
     arguments = parser("Check that the documents say what is there.").parse_args()
     binary, counts = program_of(arguments), Counts()
+    known = command_lines.options_of(binary)
     for name in documents():
         text = text_of(name)
         links(name, text, counts)
         doors(name, counts)
-        blocks = BLOCK.findall(text)
-        for mark, block in blocks:
-            if mark != "console":
-                quotes(name, mark.partition("from=")[2], block, counts)
-        sessions = [block for mark, block in blocks if mark == "console"]
-        if sessions and os.geteuid():
-            counts.skips("the sessions of %s: owners are shown as root has them" % name)
-        elif sessions:
-            session(name, sessions, binary, counts)
-            if name == "README.md":
-                session(name, sessions, binary, counts, NOBODY)
+        for file, block in BLOCK.findall(text):
+            quotes(name, file, block, counts)
+        command_lines.options(name, known, counts)
+        run(name, binary, counts)
+    packages(counts)
     promises(counts)
     made_parts(counts)
     clauses(counts)

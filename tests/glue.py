@@ -10,10 +10,12 @@ U-Boot themselves is tried. The last line is `N passed, M failed`, with `, K ski
 """
 
 import os
+import re
 import sys
 import tempfile
 
 import c
+from files import repository_text
 from harness import Counts, missing, parser, program_of
 
 RECIPES = os.path.join(c.TOP, "recipes")
@@ -58,6 +60,13 @@ def used(out):
     return [] if got == [["-12", "0"], ROOT, ["0"], BELOW, ["0"], LOADED] else lines
 
 
+def stack(counts):
+    """The stack in the header for Zephyr is that of the table of docs/C.md, which is measured (tests/figures.py)."""
+    told = re.findall(r"\b\d,\d{3}\b", repository_text("recipes/zephyr/romtool_fs.h"))
+    check, path = re.search(r"^\| Cortex-M3 \| ([\d,]+) \| ([\d,]+) \|", repository_text("docs/C.md"), re.M).groups()
+    counts.equal("the stack in recipes/zephyr", told, [path, check])
+
+
 def for_32_bits(top, counts):
     """The recipes compile for a machine of 32 bits."""
     if tool := missing("clang"):
@@ -79,6 +88,7 @@ def main():
         return counts.close()
     binary = program_of(arguments)
     archive = c.library(arguments.library, counts)
+    stack(counts)
     with tempfile.TemporaryDirectory(prefix="romtool-") as top:
         c.build_all(binary, top, counts)
         looks = c.sanitizers(top)

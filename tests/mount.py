@@ -14,7 +14,7 @@ The mount is compiled over the library for C (see c.py) by the command of docs/C
     unsorted   a list whose names are in no order
     hostile    random bytes, and images with bytes that changed, whose sums are correct again
     truncated  images that are too short before or while they are mounted
-    words      wrong words, images and directories; options; users; ends by signals
+    words      wrong words, images and directories; options, also of owners; users; ends by signals
 The last line is `N passed, M failed`, with `, K skipped` if /dev/fuse, fusermount3, libfuse3-dev, `cc` or `rt` is missing.
 """
 
@@ -22,6 +22,7 @@ import contextlib
 import ctypes
 import errno
 import os
+import pty
 import random
 import re
 import signal
@@ -40,7 +41,7 @@ from files import bytes_in, put, repository_text, wait_until
 from harness import SECONDS, TOP, Counts, missing, parser, program_of
 from images import PLAIN, romfs_list, with_sums
 from romtool import FORMATS, entries_of, pieces_of, raw, run
-from rooms import IS_ROOT, become_nobody
+from rooms import IS_ROOT, NOBODY, become_nobody
 
 SOURCE = "mount/romtool-mount.c"
 MOST_MAJOR = 0xFFF  # FUSE passes no greater major number of a device
@@ -547,6 +548,22 @@ def wrong_words(mounter):
         mounter.counts.equal("an image that may not be read", (done.returncode, b"Permission denied" in done.stderr), (3, True))
 
 
+def at_a_terminal(mounter):
+    """Words at a terminal: a fault is explained as in docs/FAULTS.md, and no byte of a name is a command for the terminal."""
+    short, foreign = mounter.top + "/short", mounter.top + "/none\x1b[31m"
+    put(short, b"hello")
+    sentence = "the file is shorter than a superblock, which has 32 bytes in romfs and 76 in cramfs"
+    for name, said in (short, f"{short}: Short (2) at 0: {sentence}"), (foreign, f"{mounter.top}/none%1B[31m: No such file or directory"):
+        leader, follower = pty.openpty()
+        with subprocess.Popen([mounter.program, name, mounter.folder], stdout=subprocess.PIPE, stderr=follower) as running:
+            os.close(follower)
+            printed = running.communicate(timeout=SECONDS)[0]
+            with os.fdopen(leader, "rb", buffering=0) as terminal:
+                told = terminal.read(4096)
+        wanted = (f"romtool-mount: {said}\r\n".encode(), b"fault 2 Short at 0\n" if name == short else b"")
+        mounter.counts.equal(f"{name!r} at a terminal", (told, printed), wanted)
+
+
 def options(mounter):
     """What is mounted is read-only, and says so; nothing is free; and it is served as the words say."""
     image, folder, counts = mounter.top + "/cramfs.image", mounter.folder, mounter.counts
@@ -571,6 +588,42 @@ def options(mounter):
             counts.equal("statfs", (told.f_files, told.f_bfree, told.f_ffree, told.f_namemax), (len(numbers), 0, 0, 255))
             counts.equal("blocks", told.f_blocks * told.f_frsize, os.path.getsize(image))
             counts.equal("a file with %s" % (words,), bytes_in(folder + "/size100001"), bytes_in(mounter.top + "/tree/size100001"))
+
+
+def owners(mounter):
+    """uid= and gid= replace owners, and umask= the permissions by those that it lacks, as mount.fuse3(8) says. All else stays."""
+    put(mounter.top + "/owners", b"dir / 0755 1 2\nfile /a 4711 3 4 4 a\ndir /d 0700 5 6\nfile /d/b 0640 7 8 4 a\nslink /d/l 0777 9 1 b\n")
+    image, counts, listed = mounter.top + "/owners.image", mounter.counts, {}
+    mounter.build("cramfs", "owners", image)
+    for it in entries_of(run(mounter.binary, "list", image).stdout):
+        listed[it.path] = (it.mode, it.user, it.group)
+    for words, mode, user, group in (
+        ("uid=1000", None, 1000, None), ("gid=0", None, None, 0), ("umask=022", 0o755, None, None), ("umask=0", 0o777, None, None),
+        ("uid=4294967294,gid=17,umask=0377", 0o400, 2**32 - 2, 17), ("umask=777,ro,max_read=8192,uid=0", 0, 0, None),
+    ):  # fmt: skip
+        with mounter.mounted(image, "-o", words) as server:
+            counts.equal("mounted with %s" % words, bool(server), True)
+            for path, own in listed.items() if server else ():
+                told = os.lstat(mounter.folder + path)
+                wanted = [it if other is None else other for it, other in zip(own, (mode, user, group))]
+                counts.equal("%s with %s" % (path, words), [stat.S_IMODE(told.st_mode), told.st_uid, told.st_gid], wanted)
+                if stat.S_ISREG(told.st_mode) and IS_ROOT:
+                    counts.equal("%s with %s, its bytes" % (path, words), bytes_in(mounter.folder + path), bytes_in(mounter.top + "/a"))
+    for words in ("uid=", "uid=x", "uid=-1", "uid=4294967295", "gid=1x", "gid=18446744073709551616", "umask=8", "umask=1000", "umask=+7"):
+        done = run(mounter.program, image, mounter.folder, "-o", words)
+        told = (done.returncode, words in done.stderr.decode(), os.path.ismount(mounter.folder))
+        counts.equal("romtool-mount with %s" % words, told, (2, True, False))
+
+
+def as_owner(mounter):
+    """A user other than root reads files that only root may read, if the mount says that they are his."""
+    if not IS_ROOT:
+        mounter.counts.skips("files that only root may read: only root can mount them for all")
+        return
+    for words, status in (("allow_other", 1), ("allow_other,uid=%d" % NOBODY, 0), ("allow_other,umask=022", 0)):
+        with mounter.mounted(mounter.top + "/modes.image", "-o", words):
+            got = run("cat", mounter.folder + "/root", preexec_fn=become_nobody).returncode
+            mounter.counts.equal("a file of root with %s" % words, got, status)
 
 
 def users(mounter):
@@ -629,7 +682,7 @@ def main():
             mounter = Mounter(binary, program, top, counts)
             built(mounter)
             reads(mounter, of_few)
-            for test in (cases, unsorted, many, hostile, truncated, wrong_words, options, users, ends):
+            for test in (cases, unsorted, many, hostile, truncated, wrong_words, at_a_terminal, options, owners, users, as_owner, ends):
                 test(mounter)
     return counts.close()
 

@@ -215,6 +215,11 @@ ERRORS = {
         ("scan --all *--device-table*", "sed -i 's/2 BadNumber/1 BadWord/' $err"),
         ("scan --all *--device-table*", "sed -i 's/hda3/hda2/' $out"),
         ("scan --all *--device-table*", "sed -i 's/^slink \\(.*\\) 0 0 a/slink \\1 9 9 a/' $out"),
+        ("scan --all *--device-table*", "sed -i 's/ b 1 10$/ b 1 6/' $out"),
+        ("scan --all *--device-table*", "sed -i 's,^dir /srv2 0755 0 0,dir /srv2 0755 3 4,' $out"),
+        ("scan --all *--devices*", "sed -i 's,^file /b 4711 7 8,file /b 0644 0 0,' $out"),
+        ("scan --all *lower upper", "sed -i 's,upper/x,lower/x,' $err"),
+        ("scan --all *--all-root*", "sed -i 's/ 0 0/ 7 8/' $out"),
         ("scan --all *--strict*", "sed -i 's/^unfit 6/unfit 5/' $err"),
         ("--explain scan --all *", "sed -i '/newly readable/d' $err"),
         ("scan --all *--dedupe*", "sed -i 's,^file /e .*,same /e 0644 0 0 /f,' $out"),
@@ -224,6 +229,14 @@ ERRORS = {
         ("scan --all *", "sed -i '2,$d' $err"),
         ("scan --all *", "grep -q usage $err && status=1"),
     ),
+    "reading::test_most": (
+        ("verify --max-size *", "[ $status = 3 ] && status=1"),
+        ("space --max-size *", "sed -i 's/image/other/' $err"),
+        ("extract --max-size *", "[ $status = 3 ] && mkdir to"),
+        ("list image", "[ $status = 3 ] && : >$err && status=0"),
+    ),
+    "reading::test_most_of_a_cut_image": (("which --max-size *", "[ $status = 1 ] && echo file image >$err && status=3"),),
+    "reading::test_numbers": (("numbers --c *", "sed -i 's/, 0,/, 1,/' $out"),),
     "pack": (
         ("pack *--size *", "[ $status = 0 ] && truncate -s -1 out"),
         ("pack *", "[ $status = 1 ] && : >out"),
@@ -242,6 +255,10 @@ ERRORS = {
         ("build --size *", "truncate -s 2047 out"),
         ("scan --all faked", "status=0"),
         ("scan --all under", "sed -i 's/ 5 6/ 0 0/' $out"),
+    ),
+    "pack_tar": (
+        ("pack --quiet --strict *", "[ $status = 0 ] && $romtool pack --quiet --all-root $5 $6 $7 >>$err"),
+        ("pack *", "[ $status = 1 ] && : >out"),
     ),
     "edge_scan::test_each_call_failed": (
         ("scan --all in", UNSAID),

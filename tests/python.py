@@ -7,18 +7,26 @@ The shared library is made of the archive by the commands of the package's READM
 of the package (tests/small.py) is run, without warnings. The structs have the sizes and offsets that a C program prints of the
 header, and the words of errors, the names of faults and the version are those of the header. Then tests/answers.py answers
 `check`, `list`, `map` and `cat` on the cases (see run.py) and on one directory in each format as romtool does, walks over the
-same paths, and has the same errors as a server. The example addresses.py is run on each format. If setuptools, wheel and pip
-are installed, a wheel is built, and used. The last line is `N passed, M failed`, with `, K skipped` if `cc` or `rt` is missing.
+same paths, and has the same errors as a server, and tests/paths.py finds of a packed directory what pathlib finds in it. Many files
+of one directory are read in linear time, by paths, entries and patterns. The example addresses.py is run on each format. If
+setuptools, wheel and pip are installed, a wheel is built, installed and used; without the library that ends with an error. So is the
+wheel that a release has, which is compared with the one that setuptools makes of the sources in a release. The last line is
+`N passed, M failed`, with `, K skipped` if `cc` or `rt` is missing.
 """
 
+import base64
 import ctypes
+import email
 import glob
+import hashlib
 import importlib.util
 import os
 import re
 import shutil
 import sys
+import tarfile
 import tempfile
+import zipfile
 
 import c
 from files import repository_text
@@ -27,7 +35,9 @@ from romtool import entries_of, escaped, pieces_of, raw, run
 
 sys.path.insert(0, os.path.join(c.TOP, "tools"))
 
+import bindings  # noqa: E402
 import installation  # noqa: E402
+import tarball  # noqa: E402
 
 PACKAGE = os.path.join(c.TOP, "bindings", "python")
 # the paths and requests on a directory in each format, whose errors are compared
@@ -62,6 +72,50 @@ def of_release(archive, binary, top, counts):
     if shared_library(whole, "no-whole-archive", made, counts):
         done = python(["-c", "import romtool; print(romtool.Image('romfs').format)"], binary, made, cwd=top)
         counts.equal("the archive of a release", done.stdout, b"romfs\n")
+
+
+def packages_of_release(archive, binary, top, counts):
+    """The wheel that a release has is installed and used; it has the files and the metadata of the one that setuptools makes of the
+    sources in a release."""
+    shared, _ = installation.library_files(archive)["lib/libromtool.so." + installation.interface()]
+    room, sources = top + "/of-release", "romtool-python-" + installation.version()
+    os.mkdir(room)
+    shutil.copy(top + "/romfs", room)
+    name, held = bindings.wheel(shared, 1700000000)
+    for path, data in ((name, held), ("libromtool.so", shared), ("sources.tar.gz", tarball.tar(sources, bindings.package(), 1700000000))):
+        with open(os.path.join(room, path), "wb") as file:
+            file.write(data)
+    with zipfile.ZipFile(os.path.join(room, name)) as file:
+        of_wheel = {it: file.read(it) for it in file.namelist()}
+    (record,) = (it for it in of_wheel if it.endswith("/RECORD"))
+    lines = [it.split(",") for it in of_wheel[record].decode().splitlines()]
+    sums = {it: base64.urlsafe_b64encode(hashlib.sha256(held).digest()).decode().rstrip("=") for it, held in of_wheel.items()}
+    wanted = sorted([it, "sha256=" + sums[it], str(len(held))] for it, held in of_wheel.items() if it != record)
+    counts.equal("the record of the wheel", sorted(it for it in lines if it[0] != record), wanted)
+    if lost := [it for it in ("pip", "setuptools", "wheel") if not importlib.util.find_spec(it)]:
+        counts.skips("the packages of a release: there is no %s" % lost[0])
+        return
+    pip = [sys.executable, "-m", "pip", "--disable-pip-version-check"]
+    installed(pip, os.path.join(room, name), binary, room, counts)
+    with tarfile.open(room + "/sources.tar.gz") as file:
+        file.extractall(room)
+    words = [*pip, "wheel", "--quiet", "--no-deps", "--no-build-isolation", "--no-index", "-w", room + "/made", os.path.join(room, sources)]
+    done = c.said(words, timeout=5 * SECONDS, env={**os.environ, "ROMTOOL_LIBRARY": room + "/libromtool.so"})
+    found = glob.glob(room + "/made/*.whl")
+    if counts.equal("pip wheel of the sources", (done.returncode, len(found)), (0, 1), done.stdout.decode(errors="replace")):
+        with zipfile.ZipFile(found[0]) as file:
+            other = {it: file.read(it) for it in file.namelist()}
+        modules = [{it: held for it, held in files.items() if it.startswith("romtool/")} for files in (of_wheel, other)]
+        counts.equal("the files of both wheels", *modules)
+        fields = [told(files) for files in (of_wheel, other)]
+        counts.equal("the metadata of both wheels", *fields)
+
+
+def told(files):
+    """Returns the metadata of a wheel by its files: the fields that describe the package."""
+    text = next(held for it, held in files.items() if it.endswith("/METADATA")).decode()
+    head = email.message_from_string(text)
+    return {it: head.get_all(it) for it in ("Name", "Version", "Summary", "License", "Requires-Python", "Classifier", "License-File")}
 
 
 def python(words, binary, shared, path=PACKAGE, **more):
@@ -114,10 +168,10 @@ def header(counts):
     for struct, body in re.findall(r"^struct romtool_(\w+) \{\n(.*?)^\};", text, re.M | re.S):
         fields = re.findall(r"(\w+);", re.sub(r"/\*.*?\*/", "", body, flags=re.S))
         counts.equal("fields of " + struct, [it for it, _ in library.STRUCTS[struct]._fields_], fields)
-    calls = set(re.findall(r"^(?:struct )?\w+ (romtool_\w+)\(", text, re.M))
-    counts.equal("calls", set(library.CALLS), {it.removesuffix("_v%d" % library.MAJOR) for it in calls})
-    symbols = {it.removesuffix("_v%d" % library.MAJOR) for it in re.findall(r"^#define romtool_\w+ (romtool_\w+)$", text, re.M)}
-    counts.equal("names of versions", symbols | {"romtool_stat"} | library.SAME, set(library.CALLS))
+    counts.equal("calls", set(library.CALLS), set(re.findall(r"^\w+ (?:romtool_\w+ )?(romtool_\w+)\(", text, re.M)))
+    symbols = set(re.findall(r'ROMTOOL_(?:SYMBOL|RETURNS)\("(\w+)"\);', text))
+    counts.equal("symbols with a number", symbols | library.SAME, set(library.CALLS))
+    counts.equal("the number of the interface", library.MAJOR, int(re.search(r"^#define ROMTOOL_INTERFACE (\d+)$", text, re.M)[1]))
     with open(PACKAGE + "/romtool/__init__.py", encoding="utf-8") as file:
         version = re.search(r'^__version__ = "(.*)"$', file.read(), re.M)
     counts.equal("version", version[1], re.search(r'#define ROMTOOL_VERSION_TEXT "(.*)"', text)[1])
@@ -166,7 +220,8 @@ def replies(binary, shared, top, form, counts):
     requests = [(word, form, path) for word in REQUESTS for path in PATHS]
     got = asked(binary, shared, top, [(word, form, "" if path == "-" else path) for word, _, path in requests], counts)
     for word, _, path in requests:
-        said = run(binary, "serve", form, cwd=top, input=("%s %s\n" % (word, path)).encode()).stdout.split()
+        asked_for = "/init" if path == "init" else path  # the package anchors a path at the root
+        said = run(binary, "serve", form, cwd=top, input=("%s %s\n" % (word, asked_for)).encode()).stdout.split()
         if said[0] == b"ok" and word in ("readlink", "open"):
             said = [b"ok", *said[3:]]
         status, printed = got.get((word, form, "" if path == "-" else path), (None, b""))
@@ -184,22 +239,92 @@ def addresses(binary, shared, top, form, counts):
     counts.equal("addresses.py, another address", (done.returncode, done.stdout.splitlines()[-1]), (1, told))
 
 
+def source_directory(top):
+    """Makes a directory with links, names of one file, dots in names and a name of other letters."""
+    for name in ("d/e/f", "d/.h", "empty", "d/x.y"):
+        os.makedirs(os.path.join(top, name))
+    for name in ("motd", "d/a.tar.gz", "d/b.txt", "d/e/c.txt", "d/.h/.hidden", "d/e/f/a space", "d/e/\u00fc.txt", "d/x.y/deep.txt"):
+        with open(os.path.join(top, name), "w", encoding="utf-8") as file:
+            file.write(name * len(name))
+    os.link(top + "/motd", top + "/d/again")
+    for name, text in (("d/link", "../motd"), ("up", "d/e"), ("none", "nowhere"), ("loop", "loop"), ("through", "motd/x")):
+        os.symlink(text, os.path.join(top, name))
+
+
+PATTERNS = ("*", "*.txt", "d/*", "*/*", "d/**/*.txt", "**/e/*", "d/b.txt", "d/../motd", "?otd", "[ad]*", "x*", "**/e/**/*", "./d/./*",
+            "none/x", "motd/*", "up/*", "*/f/*", "[!a-m]*", "d/*.*")  # fmt: skip
+
+
+def as_pathlib(binary, shared, top, counts):
+    """The paths of a packed directory are those that pathlib finds in it, and so is what they lead to."""
+    room = top + "/packed"
+    os.makedirs(room + "/source")
+    source_directory(room + "/source")
+    for form in c.FORMATS:
+        counts.equal("pack " + form, run(binary, "pack", "--quiet", form, "source", form, cwd=room).returncode, 0)
+        done = python([PACKAGE + "/tests/paths.py", form, "source", *PATTERNS], binary, shared, cwd=room)
+        found = re.fullmatch(rb"(\d+) answers\n", done.stdout)
+        if done.returncode or not found or int(found[1]) < 1000:
+            counts.fails("paths.py on " + form, done.stdout.decode(errors="replace").splitlines()[-20:])
+        else:
+            counts.passes(int(found[1]))
+
+
+# the times of reading all files of a directory by paths, by entries and by a pattern
+READING = """import sys, time, romtool
+for name in sys.argv[1:]:
+    image = romtool.Image(name)
+    for files in ((image.read("/" + it) for it in image.listdir()), (it.read() for it in image.scandir()),
+                  (it.read_bytes() for it in image.root.rglob("*"))):
+        start = time.process_time()
+        print(sum(map(len, files)), time.process_time() - start)
+"""
+
+
+def in_linear_time(binary, shared, top, counts):
+    """Eight times as many files of a directory take less than 24 times as long: without the numbers of nodes it would be 64 times."""
+    for name, many in (("few", 5000), ("many", 40000)):
+        lines = "".join("file /n%05d 0644 0 0 4 one\n" % it for it in range(many))
+        for path, text in ((name + ".manifest", lines), ("one", "x")):
+            with open(os.path.join(top, path), "w", encoding="utf-8") as file:
+                file.write(text)
+        counts.equal("build " + name, run(binary, "build", "romfs", name + ".manifest", name, cwd=top).returncode, 0)
+    lines = [it.split() for it in python(["-c", READING, "few", "many"], binary, shared, cwd=top).stdout.splitlines()]
+    counts.equal("files that are read", [int(count) for count, _ in lines], [5000] * 3 + [40000] * 3)
+    times = [float(time) for _, time in lines]
+    for way, few, many in zip(("paths", "entries", "a pattern"), times, times[3:]):
+        counts.equal("time by %s: %.2f s and %.2f s" % (way, few, many), many < 24 * few, True)
+
+
 def wheel(binary, shared, top, counts):
-    """A wheel is built without a network, and used."""
+    """A wheel is built without a network, installed and used. Without the library there is none, and pip says so."""
     if lost := [it for it in ("pip", "setuptools", "wheel") if not importlib.util.find_spec(it)]:
         counts.skips("a wheel: there is no %s" % lost[0])
         return
     copy, made = os.path.join(top, "package"), os.path.join(top, "wheels")
-    shutil.copytree(PACKAGE, copy, ignore=shutil.ignore_patterns("build", "*.egg-info", "__pycache__"))
-    words = ["pip", "wheel", "--quiet", "--no-deps", "--no-build-isolation", "--no-index", "-w", made, copy]
-    done = c.said([sys.executable, "-m", *words], timeout=5 * SECONDS)
-    found = glob.glob(made + "/romtool-*-py3-none-any.whl")
+    shutil.copytree(PACKAGE, copy, ignore=shutil.ignore_patterns("build", "*.egg-info", "__pycache__", "libromtool.so"))
+    pip = [sys.executable, "-m", "pip", "--disable-pip-version-check"]
+    words = [*pip, "wheel", "--quiet", "--no-deps", "--no-build-isolation", "--no-index", "-w", made, copy]
+    env = {it: value for it, value in os.environ.items() if it != "ROMTOOL_LIBRARY"}
+    # the second one has the functions of another library
+    for told, why in (({}, b"romtool: there is no libromtool.so"), ({"ROMTOOL_LIBRARY": "libc.so.6"}, b"lacks romtool_check")):
+        done = c.said(words, timeout=5 * SECONDS, env={**env, **told})
+        counts.equal("pip wheel without the library", (done.returncode != 0, why in done.stdout), (True, True))
+    done = c.said(words, timeout=5 * SECONDS, env={**env, "ROMTOOL_LIBRARY": shared})
+    found = glob.glob(made + "/romtool-*-py3-none-linux_%s.whl" % os.uname().machine)
     if counts.equal("pip wheel", (done.returncode, len(found)), (0, 1), done.stdout.decode(errors="replace")):
-        code = "import romtool, sys; print(romtool.__file__.startswith(sys.argv[1]), romtool.Image('romfs').listdir())"
-        done = python(["-c", code, found[0]], binary, shared, found[0], cwd=top)
-        counts.equal("a wheel that is used", done.stdout, b"True ['d', 'empty', 'init', 'loop']\n")
-        names = c.said([sys.executable, "-m", "zipfile", "-l", found[0]]).stdout
-        counts.equal("types in the wheel", b"romtool/py.typed" in names, True)
+        installed(pip, found[0], binary, top, counts)
+
+
+def installed(pip, made, binary, top, counts):
+    """A wheel is installed into an empty directory, from which the package is imported and used without a word on the library."""
+    room = top + "/installed"
+    done = c.said([*pip, "install", "--quiet", "--no-index", "--no-deps", "--target", room, made], timeout=5 * SECONDS)
+    counts.equal("pip install", done.returncode, 0, done.stdout.decode(errors="replace"))
+    code = "import romtool, sys; print(romtool.__file__.startswith(sys.argv[1]), romtool.Image('romfs').listdir())"
+    done = python(["-c", code, room], binary, "", room, cwd=top)
+    counts.equal("a wheel that is used", done.stdout, b"True ['d', 'empty', 'init', 'loop']\n")
+    counts.equal("types in the wheel", os.path.exists(room + "/romtool/py.typed"), True)
 
 
 def build_all(binary, top, counts):
@@ -237,9 +362,12 @@ def main():
         for form in c.FORMATS:
             replies(binary, shared, top, form, counts)
             addresses(binary, shared, top, form, counts)
+        as_pathlib(binary, shared, top, counts)
+        in_linear_time(binary, shared, top, counts)
         wheel(binary, shared, top, counts)
         if archive:
             of_release(archive, binary, top, counts)
+            packages_of_release(archive, binary, top, counts)
     return counts.close()
 
 

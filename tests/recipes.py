@@ -37,7 +37,7 @@ find_package(romtool %s REQUIRED)
 %s
 """
 IMAGE = "romtool_image(TARGET image FORMAT cramfs OUTPUT out/image DIRECTORY root over ALIGN 4096 'text=%s' ALL_ROOT\n"
-IMAGE = (IMAGE + "EXCLUDE *.o *.tmp DEVICES devices STRICT MAX_SIZE %s)").replace("'", "")
+IMAGE = (IMAGE + "EXCLUDE *.o *.tmp DEVICES devices STRICT XIP MAX_SIZE %s)").replace("'", "")
 # what depends on the image, is installed, and notes that it was made
 USER = """
 add_custom_command(OUTPUT copy COMMAND sh -c "cp out/image copy && echo >>../copies" DEPENDS image "${CMAKE_CURRENT_BINARY_DIR}/out/image"
@@ -46,9 +46,9 @@ add_custom_target(copied ALL DEPENDS copy)
 install(FILES "${CMAKE_CURRENT_BINARY_DIR}/out/image" DESTINATION firmware)
 """
 FROM_MANIFEST = "romtool_image(TARGET image FORMAT romfs OUTPUT image.romfs MANIFEST manifest SOURCES root)"
-MAKEFILE = """include %s/make/romtool.mk
+MAKEFILE = """include recipes/make/romtool.mk
 $(call romtool_image,out/image,cramfs,root over,--all-root --align 4096 --align text=%s --exclude '*.o' --exclude '*.tmp' \
---devices devices --strict --max-size %s)
+--devices devices --strict --xip --max-size %s)
 copy: out/image; cp $< $@ && echo >>copies
 clean: ; rm -f $(romtool_made)
 """
@@ -71,7 +71,8 @@ WRONG = (
     "TARGET i FORMAT ext2 OUTPUT a DIRECTORY root", "TARGET i FORMAT cramfs OUTPUT a DIRECTORY root MANIFEST m",
     "TARGET i FORMAT cramfs OUTPUT a DIRECTORY root OWNER 1:1 ALL_ROOT", "TARGET i FORMAT cramfs OUTPUT a DIRECTORY root XIP ALING 4",
     "TARGET i FORMAT cramfs OUTPUT a MANIFEST m ALL_ROOT", "TARGET i FORMAT cramfs OUTPUT a DIRECTORY root MAX_SIZE",
-    "TARGET i FORMAT cramfs OUTPUT i DIRECTORY root",
+    "TARGET i FORMAT cramfs OUTPUT i DIRECTORY root", "TARGET i FORMAT cramfs OUTPUT a DIRECTORY root \"r;x\"",
+    "TARGET i FORMAT cramfs OUTPUT a DIRECTORY root VOLUME \"a;b\"", "TARGET i FORMAT cramfs OUTPUT a DIRECTORY root EXCLUDE $<0:x>",
 )  # fmt: skip
 
 
@@ -115,6 +116,11 @@ class System:
         found = os.stat(path)
         return found.st_ino, found.st_mtime_ns, bytes_in(path)
 
+    def names(self, said, where):
+        """Returns whether what was said has a line about this file, whose name is a pattern with IMAGE, and names no temporary file."""
+        pattern = r"^romtool: (.*/)?%s: " % where.replace("IMAGE", re.escape(os.path.basename(self.image)))
+        return re.search(pattern, said, re.M) and ".romtool-new" not in said
+
     def copies(self):
         """Returns how often what depends on the image was made."""
         return len(text_of(self.top + "/copies").splitlines()) if os.path.exists(self.top + "/copies") else 0
@@ -127,6 +133,8 @@ class System:
             if status or count != wanted or self.calls() != ["pack"]:
                 yield "%s: status %d, replaced %d times by %s: %s" % (what, status, count, self.calls(), said)
                 return
+            if wanted and not self.names(said, "IMAGE"):
+                yield "%s: another name of the image: %s" % (what, said)
             if self.copy and (self.copies() - before, bytes_in(os.path.join(self.top, self.copy))) != (wanted, self.state()[2]):
                 yield "%s: what depends on the image was made %d times" % (what, self.copies() - before)
         yield from self.compared(what, more)
@@ -150,11 +158,11 @@ class System:
             if run(self.binary, "cat", image, os.fsdecode(path)).stdout != text:
                 yield "%s: other bytes in %r" % (what, path)
 
-    def refused(self, what):
-        """What is wrong if a build has to fail and to leave the image."""
+    def refused(self, what, where="[^:]*"):
+        """What is wrong if a build has to fail, to leave the image, and to say in which file it failed."""
         before = self.state()
         status, _, said = self.build()
-        if not status or self.state() != before or "romtool: " not in said:
+        if not status or self.state() != before or not self.names(said, where):
             yield "%s: status %d: %s" % (what, status, said)
 
     def follows(self, more=()):
@@ -183,8 +191,10 @@ class System:
         os.remove(bad)
         yield from self.built("without this name", times=0, more=more)
         put(top + "/root/" + "n" * 253)
-        yield from self.refused("a name that is too long for cramfs")
-        yield from self.refused("a name that is too long for cramfs, once more")
+        for times in "", ", once more":
+            yield from self.refused("a name that is too long for cramfs" + times, r"IMAGE\.manifest:\d+")
+        if b"nnn" not in bytes_in(os.path.join(self.top, self.image + ".manifest")):
+            yield "a name that is too long for cramfs: it is not in the manifest"
         os.remove(top + "/root/" + "n" * 253)
         yield from self.built("without the long name", times=0, more=more)
 
@@ -196,6 +206,11 @@ def tree(top):
         os.chmod(os.path.join(top, name), mode)
     os.remove(top + "/root/dev/null")
     put(top + "/devices", b"nod /dev/console 0600 0 0 c 5 1\n")
+
+
+def link_recipes(top):
+    """Makes the link `recipes` in a project: make reads no file whose name has a space, and the path of the repository may have one."""
+    os.symlink(RECIPES, top + "/recipes")
 
 
 CONSOLE = {("c", 0o600, 0, 0, b"/dev/console")}
@@ -236,7 +251,7 @@ def by_cmake(generator, binary):
         put("%s/root/%s" % (top, name), b"odd", 0o644)
     yield from system.built("odd names", more=CONSOLE)
     put(top + "/CMakeLists.txt", (CMAKE % (installation.version(), (IMAGE + USER) % ("8K", "1K"))).encode())
-    yield from system.refused("a limit")
+    yield from system.refused("a limit", "IMAGE")
 
 
 def installed(system, words, path):
@@ -320,7 +335,8 @@ def make_at_once(binary):
     """Several images at once by GNU make."""
     top = "with space"
     one_tree(top)
-    lines = ["include %s/make/romtool.mk" % RECIPES, "all: %s" % " ".join("out/" + it for it in FORMATS)]
+    link_recipes(top)
+    lines = ["include recipes/make/romtool.mk", "all: %s" % " ".join("out/" + it for it in FORMATS)]
     put(
         top + "/Makefile",
         "\n".join([*lines, *("$(call romtool_image,out/%s,%s,'the root',--all-root)" % (it, it) for it in FORMATS), ""]).encode(),
@@ -419,18 +435,19 @@ def make(binary):
     """GNU make: the image's own path has no space, but the current directory has one."""
     top = "with space"
     tree(top)
+    link_recipes(top)
     system = System(binary, top, "out/image", [["make", "copy"]])
-    put(top + "/Makefile", (MAKEFILE % (RECIPES, "8", "1M")).encode())
+    put(top + "/Makefile", (MAKEFILE % ("8", "1M")).encode())
     system.copy = "copy"
     yield from system.follows(CONSOLE)
     yield from excluded(system)
-    put(top + "/Makefile", (MAKEFILE % (RECIPES, "8K", "1M")).encode())
+    put(top + "/Makefile", (MAKEFILE % ("8K", "1M")).encode())
     yield from system.built("another option", more=CONSOLE)
     for name in ODD_NAMES:
         put("%s/root/%s" % (top, name), b"odd", 0o644)
     yield from system.built("odd names", more=CONSOLE)
-    put(top + "/Makefile", (MAKEFILE % (RECIPES, "8K", "1K")).encode())
-    yield from system.refused("a limit")
+    put(top + "/Makefile", (MAKEFILE % ("8K", "1K")).encode())
+    yield from system.refused("a limit", "IMAGE")
     system.commands = [["make", "clean"]]
     system.build()
     if os.listdir(top + "/out"):
@@ -442,7 +459,8 @@ def make_manifest(binary):
     """GNU make with a manifest."""
     os.makedirs("with space/root")
     system = System(binary, "with space", "image", [["make"]])
-    put("with space/Makefile", ("include %s/make/romtool.mk\n$(call romtool_manifest,image,romfs,manifest,-C root)\n" % RECIPES).encode())
+    link_recipes("with space")
+    put("with space/Makefile", b"include recipes/make/romtool.mk\n$(call romtool_manifest,image,romfs,manifest,-C root)\n")
     yield from of_manifest(system, "manifest")
 
 
@@ -485,8 +503,9 @@ def buildroot(binary):
     shutil.rmtree("over")
     system = System(binary, ".", "rootfs.romtool", [])
     put("Makefile", STUBS.encode())
-    options = ["BR2_EXTERNAL_ROMTOOL_PATH=%s/buildroot" % RECIPES, 'BR2_TARGET_ROOTFS_ROMTOOL_DEVICES="devices"']
-    options += ['BR2_TARGET_ROOTFS_ROMTOOL_OPTIONS="--all-root --align 4096 --strict"']
+    link_recipes(".")
+    options = ["BR2_EXTERNAL_ROMTOOL_PATH=recipes/buildroot", 'BR2_TARGET_ROOTFS_ROMTOOL_DEVICES="devices"']
+    options += ['BR2_TARGET_ROOTFS_ROMTOOL_OPTIONS="--all-root --align 4096 --strict --xip"']
     for more, wanted in (
         (['BR2_ENDIAN="LITTLE"'], b"cramfs "), (['BR2_ENDIAN="BIG"'], b"cramfs-be "), (["BR2_TARGET_ROOTFS_ROMTOOL_ROMFS=y"], b"romfs "),
     ):  # fmt: skip
@@ -511,6 +530,7 @@ def yocto(binary):
     system = System(binary, ".", "deploy/image.romtool", [["sh", "-euc", function + "romtool_pack"]])
     given = dict(re.findall(r'^(ROMTOOL_\w+) \?= "([^$"]*)"$', text, re.M))
     given |= {"ROMTOOL_FORMAT": "cramfs", "WORKDIR": "work", "IMAGE_NAME": "image", "IMAGE_ROOTFS": "root", "IMGDEPLOYDIR": "deploy"}
+    given["ROMTOOL_OPTIONS"] += "" if rooms.IS_ROOT else " --all-root"  # pseudo would show root as the owner
     for folder in ("work", "deploy"):
         os.mkdir(folder)
     for devices, more in (("", set()), ("devices", CONSOLE)):
@@ -560,9 +580,18 @@ def versions(_):
                 yield "%s: its first line does not say what was not tried" % path
 
 
+def strict_and_xip(_):
+    """Each recipe that refuses what Linux would misread also refuses programs that Linux would copy."""
+    for at, _, names in os.walk(RECIPES):
+        for path in (os.path.join(at, it) for it in names):
+            text = text_of(path)
+            if "--strict" in text and "--xip" not in text or re.search(r"\bSTRICT\b", text) and not re.search(r"\bXIP\b", text):
+                yield "%s: --strict without --xip" % os.path.relpath(path, TOP)
+
+
 TESTS = (
     cmake_ninja, cmake_makefiles, cmake_ninja_manifest, cmake_makefiles_manifest, cmake_ninja_at_once, cmake_makefiles_at_once,
-    cmake_package, make, make_manifest, make_example, make_at_once, meson, buildroot, yocto, workflow, versions,
+    cmake_package, make, make_manifest, make_example, make_at_once, meson, buildroot, yocto, workflow, versions, strict_and_xip,
 )  # fmt: skip
 
 

@@ -9,9 +9,10 @@ fakeroot the programs of the package and of the archive see the owners and devic
 an image.
 A C program outside the tree is built over what the archive installs, by pkg-config and by CMake. The installed archives have each
 function that the installed headers declare, and no link of an installed document leads to a file that is not there. What is in
-the release for boards is tested by boards.py. tools/install and its --uninstall leave nothing. Completions offer what help lists.
-The version is the same in each place. With --object and --library a trial release is made of these, and with --module the release
-for boards of this module. The last line is `N passed, M failed`, with `, K skipped` if a tool is missing.
+the release for boards is tested by boards.py, and the packages for Rust and Python by rust.py and python.py. tools/install and its
+--uninstall leave nothing. Completions offer what help lists. The commands of SECURITY.md check the release, and compare it with one
+that is made again in a clone. The version is the same in each place. With --object and --library a trial release is made of these,
+and with --module the release for boards of this module. The last line is `N passed, M failed`, with `, K skipped` if a tool is missing.
 """
 
 import glob
@@ -24,7 +25,9 @@ import subprocess
 import sys
 import tarfile
 import tempfile
+import zipfile
 
+import command_lines
 import fuse
 from files import repository_text as text_of
 from harness import HERE, SECONDS, Counts, missing, parser, program_of
@@ -95,9 +98,15 @@ target_link_libraries(first romtool::romtool)
 
 sys.path.insert(0, TOOLS)
 
+import bindings  # noqa: E402
 import completions  # noqa: E402
 import installation  # noqa: E402
+import tarball  # noqa: E402
 import unproved_aarch64  # noqa: E402
+
+# the package of Debian that has the shared library, and its file
+SHARED = "libromtool" + installation.interface()
+SHARED_FILE = "lib/libromtool.so." + installation.interface()
 
 
 def ran(words, **more):
@@ -128,8 +137,8 @@ def versions(binary, counts):
     counts.equal(
         "the version of mount's man page", re.findall(r'^\.TH .*"romtool (\S+)"', text_of("mount/romtool-mount.1"), re.M), [version]
     )
-    in_readme = set(re.findall(r"romtool(?:-dev|-mount|-embedded)?[-_](\d+\.\d+\.\d+)", text_of("README.md")))
-    counts.equal("the version of the files that the README names", in_readme, {version})
+    named = re.findall(r"romtool(?:-dev|-mount|-embedded)?[-_](\d+\.\d+\.\d+)", text_of("README.md") + text_of("SECURITY.md"))
+    counts.equal("the version of the files that README and SECURITY name", set(named), {version})
     said = subprocess.run([binary, "--explain", "--version"], capture_output=True, text=True, timeout=SECONDS).stderr
     counts.equal("what --version says", said.splitlines()[-1:], ["romtool " + version])
     heads = re.findall(r"^## (.*)$", text_of("CHANGELOG.md"), re.M)
@@ -214,14 +223,20 @@ def installs(binary, library, top, counts):
     """tools/install puts the files where they belong, also a second time, and --uninstall removes all that it made."""
     words = [TOOLS + "/install", "--program", binary, *(["--library", library] if library else [])]
     root, prefix = top + "/root", "/opt/of/romtool"
-    os.mkdir(root)
     for _ in range(2):
         works(counts, [*words, prefix, root])
     there = below(root + prefix)
     wanted = ["bin/romtool", "share/man/man1/romtool.1", "share/doc/romtool/README.md", *installation.COMPLETIONS.values()]
     wanted += ["share/romtool/" + it for it in installation.RECIPES.values()]
     wanted += (
-        ["lib/libromtool.a", "lib/libromtool_area.a", "include/romtool.h", "include/romtool_heap.h", "lib/pkgconfig/romtool.pc"]
+        [
+            "lib/libromtool.a",
+            SHARED_FILE,
+            "lib/libromtool_area.a",
+            "include/romtool.h",
+            "include/romtool_heap.h",
+            "lib/pkgconfig/romtool.pc",
+        ]
         if library
         else []
     )
@@ -236,6 +251,11 @@ def installs(binary, library, top, counts):
     counts.equal("what is left behind --uninstall", below(root), ["opt/", "opt/own"])
     counts.equal("a second --uninstall", ran([TOOLS + "/install", "--uninstall", prefix, root])[0], 1)
     counts.equal("a prefix that is not absolute", ran([*words, "usr", root])[0], 1)
+    # a link of others, at a name that could be used for a moment
+    os.makedirs(top + "/linked/usr/bin")
+    os.symlink(top + "/precious", top + "/linked/usr/bin/romtool.new")
+    works(counts, [*words, "/usr", top + "/linked"])
+    counts.equal("what a link of others leads to", os.path.exists(top + "/precious"), False)
 
 
 def documents(prefix, counts):
@@ -257,9 +277,9 @@ def headers(prefix, counts):
         return
     names = ("romtool.h", "romtool_heap.h")
     text = "".join(re.sub(r"/\*.*?\*/", "", held(prefix + "/include/" + it).decode(), flags=re.S) for it in names)
-    text = re.sub(r"#if ROMTOOL_32\n.*?#else\n", "", text, flags=re.S)
-    symbols = dict(re.findall(r"^#define (\w+) (\w+_v\d+)$", text, re.M))
-    declared = {symbols.get(it, it) for it in re.findall(r"\b((?:romtool|rattle)_\w+)\([^;{()]*\);", text)}
+    number = re.search(r"^#define ROMTOOL_INTERFACE (\d+)$", text, re.M)[1]
+    declared = set(re.findall(r"^(?:struct )?\w+ ((?:romtool|rattle)_\w+)\([^;{()]*\);", text, re.M))
+    declared |= {it + "_v" + number for it in re.findall(r'ROMTOOL_(?:SYMBOL|RETURNS)\("(\w+)"\);', text)}
     counts.equal("functions that are declared", len(declared), 26 + 3 + 3)
     has = set()
     for archive in glob.glob(prefix + "/lib/*.a"):
@@ -295,6 +315,8 @@ def contents(folder, counts):
     version = installation.version()
     wanted = ["PROVENANCE.txt", "SHA256SUMS", "romtool-%s-x86_64-linux-objects.tar.gz", "romtool-%s-x86_64-linux.tar.gz"]
     wanted += ["romtool-dev_%s_amd64.deb", "romtool-embedded-%s.tar.gz", "romtool-mount_%s_amd64.deb", "romtool_%s_amd64.deb"]
+    wanted += [SHARED + "_%s_amd64.deb", "romtool-%s.crate", "romtool-python-%s.tar.gz"]
+    wanted += ["romtool-%s-py3-none-manylinux_2_17_x86_64.manylinux2014_x86_64.whl"]
     wanted += [] if unproved_aarch64.lacks() else ["romtool-%s-aarch64-linux.tar.gz", "romtool-%s-aarch64-linux-objects.tar.gz"]
     counts.equal("the files of the release", sorted(os.listdir(folder)), sorted(it.replace("%s", version) for it in wanted))
     works(counts, ["sha256sum", "--check", "--quiet", "SHA256SUMS"], cwd=folder)
@@ -315,6 +337,25 @@ def contents(folder, counts):
         counts.equal("owners in an archive", {(it.uid, it.gid, it.uname) for it in entries}, {(0, 0, "")})
         top = os.path.basename(path).removesuffix(".tar.gz")
         counts.equal("an archive has one folder", {it.partition("/")[0] for it in names}, {top})
+
+
+def as_documented(folder, given, top, counts):
+    """Runs the commands of SECURITY.md on the files of the release: they accept it, and refuse a changed program. In place of the hours of
+    ./test the clone has a program that does nothing, and in place of its tools/release the one of this tree, with the same words."""
+    room, clone = top + "/a download", top + "/a download/checkout"
+    shutil.copytree(folder, room)
+    works(counts, ["git", "clone", "--quiet", "--shared", TOP, clone])
+    released = '#!/bin/sh\nexec %s --changed %s "$@"\n' % (shlex.quote(TOOLS + "/release"), shlex.join(given))
+    for it in command_lines.commands(text_of("SECURITY.md")):
+        counts.equal("SECURITY.md: " + it.line, ran(["bash", "-c", it.line], cwd=room), (0, it.output))
+        if it.line.startswith("git "):
+            for name, text in (("test", "#!/bin/sh\n"), ("tools/release", released)):
+                with open("%s/%s" % (clone, name), "w", encoding="utf-8") as file:
+                    file.write(text)
+    with open("%s/romtool-%s-x86_64-linux/bin/romtool" % (room, installation.version()), "ab") as file:
+        file.write(b"changed")
+    refusing = [it.line for it in command_lines.commands(text_of("SECURITY.md")) if "sha256sum --check)" in it.line]
+    counts.equal("SECURITY.md: a changed program", [ran(["bash", "-c", it], cwd=room)[0] for it in refusing], [1])
 
 
 def dpkg(root, *words):
@@ -340,7 +381,7 @@ def packages(folder, static, top, counts):
     works(counts, dpkg(root, "--install", *debs))
     of_package(root, top, counts)
     as_a_stranger(root, static, counts)
-    works(counts, dpkg(root, "--purge", "romtool", "romtool-mount", "romtool-dev"))
+    works(counts, dpkg(root, "--purge", "romtool", "romtool-mount", "romtool-dev", SHARED))
     counts.equal("what the packages leave", [it for it in below(root) if not it.startswith("var/")], [])
 
 
@@ -501,7 +542,8 @@ def for_c(prefix, binary, top, counts):
         it.write("dir / 0755 0 0\ndir /bin 0755 0 0\nfile /bin/init 0755 0 0 4096 app/bin/init\n")
     works(counts, [binary, "build", "cramfs", "manifest", "app.cramfs"], cwd=room)
     wanted = "at 4096 of the image: 23 21 2f 62\n"
-    for by, make in (("cc", with_own_memory), ("ld", with_area), ("pkg-config", by_pkg_config), ("cmake", by_cmake)):
+    ways = (("cc", with_own_memory), ("ld", with_area), ("readelf", with_shared), ("pkg-config", by_pkg_config), ("cmake", by_cmake))
+    for by, make in ways:
         if not shutil.which(by):
             counts.skips("a C program by %s: there is no %s" % (by, by))
             continue
@@ -523,6 +565,33 @@ def with_area(prefix, room, counts):
     words = ["cc", "-std=c99", "-I" + prefix + "/include", "area.c", "-L" + prefix + "/lib", "-lromtool_area", "-lromtool", "-o", "area"]
     if works(counts, words, cwd=room) is not None:
         counts.equal("the program with an area", works(counts, [room + "/area"], cwd=room), "15 0 0\n")
+
+
+def with_shared(prefix, room, counts):
+    """Builds the program over the shared library, which it then needs by its soname."""
+    name = os.path.basename(SHARED_FILE)
+    words = ["cc", "-std=c99", "-I" + prefix + "/include", "first.c", "-L" + prefix + "/lib", "-l:" + name, "-Wl,-rpath," + prefix + "/lib"]
+    if works(counts, [*words, "-o", "shared"], cwd=room) is None:
+        return None
+    needed = re.findall(r"\(NEEDED\).*\[(libromtool.*)\]", ran(["readelf", "-dW", room + "/shared"])[1])
+    counts.equal("what a program needs of the shared library", needed, [name])
+    return room + "/shared"
+
+
+def bindings_of(folder, prefix, counts):
+    """The crate, the wheel and the sources are what tests/rust.py and tests/python.py test, and the wheel has the shared library."""
+    version = installation.version()
+    for name, made in (("romtool-%s.crate" % version, bindings.crate), ("romtool-python-%s.tar.gz" % version, bindings.package)):
+        with tarfile.open(os.path.join(folder, name)) as archive:
+            top = name.removesuffix(".crate").removesuffix(".tar.gz")
+            found = {it.name.removeprefix(top + "/"): archive.extractfile(it).read() for it in archive.getmembers() if it.isfile()}
+        counts.equal("files of " + name, found, {path: data for path, (data, _) in made().items()})
+        counts.equal("the licence in " + name, found.get("LICENSE"), held(TOP + "/LICENSE"))
+    library = held(os.path.join(prefix, SHARED_FILE))
+    (wheel,) = glob.glob(folder + "/*.whl")
+    counts.equal("the wheel", (os.path.basename(wheel), held(wheel)), bindings.wheel(library, tarball.time_of_release()))
+    with zipfile.ZipFile(wheel) as archive:
+        counts.equal("the library in the wheel", archive.read("romtool/libromtool.so"), library)
 
 
 def by_pkg_config(prefix, room, counts):
@@ -566,15 +635,17 @@ def main():
     reads.add_argument("--module", help="the module for boards, if not the one of the proved build")
     arguments, counts = reads.parse_args(), Counts()
     binary, library = program_of(arguments), os.path.abspath(arguments.library or installation.LIBRARY)
-    given = [it for name in ("object", "library") for it in ("--" + name, getattr(arguments, name)) if getattr(arguments, name)]
+    trial = [name for name in ("object", "library") if getattr(arguments, name)]
+    given = [it for name in trial for it in ("--" + name, os.path.abspath(getattr(arguments, name)))]
     with tempfile.TemporaryDirectory(prefix="romtool-") as top:
         os.chmod(top, 0o755)
         versions(binary, counts)
         bash(binary, top, counts)
         shells(binary, top, counts)
         installs(binary, library if os.path.exists(library) and shutil.which("cc") else None, top, counts)
-        why = lacks(library, bool(given))
-        folder = None if why else made_twice([*given, "--module", module_of(arguments.module, top, counts)], top, counts)
+        why = lacks(library, bool(trial))
+        given += [] if why else ["--module", module_of(arguments.module, top, counts)]
+        folder = None if why else made_twice(given, top, counts)
         if why:
             counts.skips("the release: " + why)
         if folder:
@@ -582,6 +653,7 @@ def main():
             with tarfile.open("%s/%s.tar.gz" % (folder, os.path.basename(prefix))) as archive:
                 archive.extractall(top + "/unpacked")
             contents(folder, counts)
+            as_documented(folder, given, top, counts)
             linked_again(folder, top, counts)
             for_aarch64(folder, prefix, top, counts)
             packages(folder, prefix + "/bin/romtool-static", top, counts)
@@ -590,9 +662,10 @@ def main():
             mounts(prefix + "/bin", top, "archive", counts)
             lint(folder, counts)
             answers(prefix + "/bin/romtool-static", counts)
-            if not given:
+            if not trial:
                 counts.equal("the program of the release is the tested one", held(prefix + "/bin/romtool"), held(binary))
             for_c(prefix, binary, top, counts)
+            bindings_of(folder, prefix, counts)
     return counts.close()
 
 

@@ -4,7 +4,9 @@
     rust.py [--binary PATH] [--library PATH]
 
 The crate's own tests and the example of its README are run by cargo, without warnings, with each set of its features and also
-over an archive as a release has it, and its sources have to be as rustfmt leaves them. A program without std reads an image over
+over an archive as a release has it, and its sources have to be as rustfmt leaves them. They are run again with the calls of
+machines with 32-bit pointers, which are made of those of this machine. The archive of the crate that a release has is unpacked, and
+its tests are run over what a release installs. A program without std reads an image over
 the heap of c/area.c. Then the crate's example `answers` answers `check` and `list` on the cases (see run.py), and `cat` of each
 regular file of them and of one directory in each format, as romtool does. The last line is `N passed, M failed`, with
 `, K skipped` if cargo is not installed.
@@ -15,6 +17,7 @@ import re
 import shutil
 import subprocess
 import sys
+import tarfile
 import tempfile
 
 import c
@@ -23,7 +26,9 @@ from romtool import entries_of, run
 
 sys.path.insert(0, os.path.join(c.TOP, "tools"))
 
+import bindings  # noqa: E402
 import installation  # noqa: E402
+import tarball  # noqa: E402
 
 CRATE = os.path.join(c.TOP, "bindings", "rust")
 DONE = re.compile(r"test result: ok\. (\d+) passed; 0 failed")
@@ -81,14 +86,14 @@ pub extern "C" fn main() -> i32 {
 """,
 }
 # features, and how many tests pass with them at least; the README's example has no heap of its own
-FEATURES = (([], 13), (["--no-default-features", "--features", "alloc"], 2), (["--no-default-features", "--tests"], 1))
+FEATURES = (([], 19), (["--no-default-features", "--features", "alloc"], 2), (["--no-default-features", "--tests"], 1))
 
 
-def cargo(words, top, archive):
+def cargo(words, top, archive, crate=CRATE, **more):
     """Returns what cargo says with these words, and its status."""
     more = {"ROMTOOL_LIB_DIR": os.path.dirname(archive), "CARGO_TARGET_DIR": top + "/target", "RUSTFLAGS": "-D warnings",
-            "RUSTDOCFLAGS": "-D warnings"}  # fmt: skip
-    return c.said(["cargo", *words], cwd=CRATE, env={**os.environ, **more})
+            "RUSTDOCFLAGS": "-D warnings", **more}  # fmt: skip
+    return c.said(["cargo", *words], cwd=crate, env={**os.environ, **more})
 
 
 def of_release(top, archive):
@@ -100,18 +105,62 @@ def of_release(top, archive):
     return path
 
 
+def tested(done, least, what, counts):
+    """Counts the tests that cargo says passed, which are this many at least."""
+    text = done.stdout.decode(errors="replace")
+    passed = [int(it) for it in DONE.findall(text)]
+    if done.returncode or sum(passed) < least:
+        counts.fails(what, text.splitlines()[-30:])
+    else:
+        counts.passes(sum(passed))
+
+
+def by_pointer(top, archive, counts):
+    """The crate's tests pass with the calls for 32-bit pointers, which are made of those of this machine as romtool_32.h has them."""
+    with open(c.INCLUDE + "/romtool_32.h", encoding="utf-8") as file:
+        found = re.findall(r"^void rom32_(\w+)\((struct \w+) \*answer, ([^)]*)\) *\n? *ROMTOOL_SYMBOL\(", file.read(), re.M)
+    counts.equal("calls for 32-bit pointers", len(found), 12)
+    made = top + "/by-pointer"
+    os.mkdir(made)
+    shutil.copy(archive, made + "/librom_c.a")
+    with open(made + "/calls.c", "w", encoding="utf-8") as file:
+        file.write('#include "romtool.h"\n')
+        for name, struct, given in found:
+            words = ", ".join(re.findall(r"(\w+)(?:,|$)", given))
+            head = "void rom32_%s(%s *answer, %s)" % (name, struct, given)
+            file.write('%s ROMTOOL_SYMBOL("rom32_%s");\n%s {\n    *answer = romtool_%s(%s);\n}\n' % (head, name, head, name, words))
+    if c.compiled(["cc", "-std=c99", *c.STRICT, "-O2", "-fPIC", "-c", made + "/calls.c", "-o", made + "/calls.o"], counts):
+        c.compiled(["ar", "rs", made + "/librom_c.a", made + "/calls.o"], counts)
+        done = cargo(["test", "--offline", "--no-run"], top, archive, ROMTOOL_BY_POINTER="1")
+        counts.equal("an archive without these calls", (done.returncode != 0, b"rom32_lookup" in done.stdout), (True, True))
+        done = cargo(["test", "--offline"], top, made + "/librom_c.a", ROMTOOL_BY_POINTER="1")
+        tested(done, 19, "cargo test with the calls for 32-bit pointers", counts)
+
+
+def of_archive(top, archive, counts):
+    """The archive of the crate has its licence, and its tests pass over the library as a release installs it."""
+    name = "romtool-" + installation.version()
+    with open(top + "/crate.tar.gz", "wb") as file:
+        file.write(tarball.tar(name, bindings.crate(), 1700000000))
+    with tarfile.open(top + "/crate.tar.gz") as file:
+        file.extractall(top)
+    for path, (held, _) in installation.library_files(archive).items():
+        os.makedirs(os.path.dirname("%s/prefix/%s" % (top, path)), exist_ok=True)
+        with open("%s/prefix/%s" % (top, path), "wb") as file:
+            file.write(held)
+    counts.equal("the licence of the crate", os.path.exists("%s/%s/LICENSE" % (top, name)), True)
+    with open("%s/%s/Cargo.toml" % (top, name), encoding="utf-8") as file:
+        counts.equal("the version of the crate", re.findall(r'^version = "(.*)"$', file.read(), re.M), [installation.version()])
+    done = cargo(["test", "--offline"], top, top + "/prefix/lib/libromtool.a", "%s/%s" % (top, name))
+    tested(done, 19, "cargo test of the archive of the crate", counts)
+
+
 def own_tests(top, archive, counts):
     """The crate's own tests and the example of its README, with each set of features, and the pages of its documentation."""
     for over in (archive, of_release(top, archive)):
         for features, least in FEATURES:
             done = cargo(["test", "--offline", *features], top, over)
-            text = done.stdout.decode(errors="replace")
-            passed = [int(it) for it in DONE.findall(text)]
-            what = "cargo test %s over %s" % (" ".join(features), os.path.basename(over))
-            if done.returncode or sum(passed) < least:
-                counts.fails(what, text.splitlines()[-30:])
-            else:
-                counts.passes(sum(passed))
+            tested(done, least, "cargo test %s over %s" % (" ".join(features), os.path.basename(over)), counts)
     done = cargo(["doc", "--offline"], top, archive)
     counts.equal("cargo doc", done.returncode, 0)
     done = cargo(["test", "--offline"], top, top + "/none/librom_c.a")
@@ -184,6 +233,8 @@ def main():
     faults(counts)
     with tempfile.TemporaryDirectory(prefix="romtool-") as top:
         own_tests(top, archive, counts)
+        by_pointer(top, archive, counts)
+        of_archive(top, archive, counts)
         bare(top, archive, counts)
         done = cargo(["build", "--offline", "--example", "answers"], top, archive)
         answers = top + "/target/debug/examples/answers"

@@ -1,13 +1,13 @@
 #!/usr/bin/env python3
 """Builds the library for 32-bit machines and for WebAssembly, and checks that it answers as romtool does.
 
-    targets.py [--binary PATH] [--module PATH]
+    targets.py [--binary PATH] [--module PATH] [--library PATH]
 
 tools/rom32 makes the archives, all from one module. It is the module of the proved build, unless another one is given. The
 tool's own test is run first. Then
     armv7a   answers.c (see c.py) on all cases and in each format, closed.c and areas.c, by qemu-arm, also with --small
     thumbv7m the same on a board with a Cortex-M3, by qemu-system-arm, except for images that its memory does not hold; and
-             firmware with the image in flash and a heap of its own, with and without the check
+             firmware with the image in flash and a heap of its own, with and without the check; also on a Cortex-M55
     thumbv6m firmware, on the same board, which has all its instructions; the sizes of both are printed
     riscv32  `check` and `list` of answers.c on all cases, by qemu-system-riscv32
     wasm32   answers.mjs on all cases and in each format, by node; in each format also at addresses above 2^31
@@ -170,6 +170,8 @@ for it do words="$words,arg=$it"; done
 exec qemu-system-arm -M mps2-an385 -nographic -monitor none -serial none \\
     -semihosting-config enable=on,target=native,arg=rom$words -kernel %s
 """
+# the same for a board with a Cortex-M55, which has less memory
+M55, M55_RUN = ["-mcpu=cortex-m55", "-mthumb"], BOARD_RUN.replace("mps2-an385", "mps3-an547")
 
 
 def on_board(binary, top, archives, counts):
@@ -197,12 +199,12 @@ def size_of(path):
     return int(said[1].split()[0]) if len(said) > 1 else 0
 
 
-def firmware(top, archive, name, machine, words, counts):
-    """Links firmware over the image of image.h, or returns nothing."""
+def firmware(top, archive, name, machine, words, counts, layout="mps2.ld"):
+    """Links firmware over the image of image.h for a board of this layout, or returns nothing."""
     made = "%s/%s" % (top, name)
     sources = [BOARD + "/flash.c", c.HEAPS + "/bytes.c", *[c.HEAPS + "/area.c"] * ("-DCHECK" in words)]
     how = ["-std=c99", "-Os", "-ffreestanding", "-fno-builtin", "-ffunction-sections", "-nostdlib", "-Wl,--gc-sections"]
-    compiler = ["arm-none-eabi-gcc", *how, *machine, *c.STRICT, "-I" + top, "-T", BOARD + "/mps2.ld"]
+    compiler = ["arm-none-eabi-gcc", *how, *machine, *c.STRICT, "-I" + top, "-T", os.path.join(BOARD, layout)]
     made_well = c.compiled([*compiler, *words, *sources, archive, "-lgcc", "-o", made], counts)
     return made if made_well else None
 
@@ -222,12 +224,16 @@ def in_flash(top, archives, numbers, counts):
                 if made:
                     what = "%s%s on %s%s" % (form, " with a check" * bool(words), target, ", small" * small)
                     runs_in_flash(top, made, what, words, counts)
+        archive = archives.of("thumbv7m", counts)
+        made = archive and firmware(top, archive, "flash", M55, ["-DCHECK"], counts, "mps3.ld")
+        if made:
+            runs_in_flash(top, made, form + " on a Cortex-M55", ["-DCHECK"], counts, M55_RUN)
     bare_sizes(top, archives, counts)
 
 
-def runs_in_flash(top, made, what, words, counts):
-    """Runs firmware on the board, and looks at its lines."""
-    done = c.said([script(top + "/flash.sh", BOARD_RUN % made)], cwd=top, timeout=SECONDS)
+def runs_in_flash(top, made, what, words, counts, board=BOARD_RUN):
+    """Runs firmware on a board, and looks at its lines."""
+    done = c.said([script(top + "/flash.sh", board % made)], cwd=top, timeout=SECONDS)
     text = done.stdout.decode(errors="replace")
     total = sum(c.CONTENT)
     wanted = ["open 0 ", "fstat 0 ", "map 0 ", "read 0 ", "readdir 0 ", "stat 0 ", "links 0 ", "sum %d %d in flash 1\n" % (total, total)]
@@ -313,6 +319,7 @@ def in_node(binary, top, archives, counts):
 def main():
     reads = parser("Look that the library for other machines answers as romtool does.")
     reads.add_argument("--module", help="the module, if not the one of the proved build")
+    reads.add_argument("--library", help="the archive of this machine, if not the one that tools/library builds")
     reads.add_argument("--only", help="one target")
     arguments, counts = reads.parse_args(), Counts()
     if tool := missing("cc", "rt"):
@@ -335,7 +342,7 @@ def main():
             if arguments.only in (None, name):
                 part(binary, top, archives, counts)
         if arguments.only in (None, "firmware"):
-            archive = c.library(None, counts)
+            archive = c.library(arguments.library, counts)
             numbers = archive and c.program("numbers", top, archive, [], counts)
             in_flash(top, archives, numbers, counts)
     return counts.close()

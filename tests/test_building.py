@@ -30,6 +30,11 @@ STRICT = (
     ("cramfs-be", "dir / 0700 0 0\nfile /a 0644 0 0 4 block\n", "1 9 RootMode", "RootMode"),
     ("cramfs", "file /b 0644 0 0 4 byte\nsame /c 0600 0 0 /b\n", "2 2 SharedTable", "SharedTable"),
     ("cramfs", "file /b 0644 0 0 4 byte\nsame /a 0600 0 0 /b\n", "1 2 SharedTable", "SharedTable"),
+    ("cramfs", "file /b 0644 0 0 4 byte\nsame /c 0644 1 0 /b\n", "2 2 SharedTable", "SharedTable"),
+    ("cramfs-be", "file /b 0644 0 0 4 byte\nsame /c 0644 0 0 /b\nsame /d 0644 0 1 /b\n", "3 2 SharedTable", "SharedTable"),
+    # in a list, what is in /a comes before /a-b
+    ("cramfs", "dir /a 0755 0 0\nfile /a/b 0644 0 0 4 byte\nsame /a-b 0600 0 0 /a/b\n", "3 2 SharedTable", "SharedTable"),
+    ("cramfs", "dir /a 0755 0 0\nfile /a-b 0644 0 0 4 byte\nsame /a/b 0600 0 0 /a-b\n", "2 2 SharedTable", "SharedTable"),
     ("romfs", "pipe /x 0644 0 0\npipe /%s 0644 0 0\n" % ("n" * 128), "2 3 NameCut", "NameCut"),
     ("romfs", "pipe /%s 0644 0 0\n" % ("n" * 129), "1 4 NameTooLong", "NameTooLong"),
     ("romfs", "pipe /x 0644 0 0\nvolume %s\n" % ("n" * 144), "2 5 Volume", "Volume"),
@@ -39,11 +44,11 @@ STRICT = (
 # names that make reads in a rule, and those that it does not
 ODD = (
     "a", "a b", "a#b", "a$b", "a$$b", "a:b", "a%b", "a*b", "a?b", "a[b]c", "[", "a\\b", "a\\\\b", "a\\ b", "a\\#b", "a\\:b", "a'b",
-    'a"b', "a~b", "a,b", "a@b", "a{b}", "a^b", "a+b", "\u00e9", "-a", "${x}", "a b  c", " a", "a-b_c.d", "a\\x2db",
+    'a"b', "a~b", "a,b", "a@b", "a{b}", "a^b", "a+b", "\u00e9", "-a", "${x}", "a b  c", " a", "a-b_c.d", "a\\x2db", "a#*b", "a\\*b",
 )  # fmt: skip
 UNSAYABLE = (
     "a\nb", "a;b", "~a", "a\\", "a(b", "a(b)", "$(x)", "a ", "a\t", "a\tb", "\ra", "\va", "\fa", "a\r", "a|b", "a=b", "=a", "!=a", "a&",
-    "a<b>", "a`b", "a!", "define", "export", ".PHONY", ".SUFFIXES",
+    "a<b>", "a`b", "a!", "define", "export", ".PHONY", ".SUFFIXES", "a#*\\b", "a\\#?b", "[\\#a",
 )  # fmt: skip
 BAD = """\
 dir /a 9999 0 0
@@ -98,15 +103,15 @@ def test_place(romtool, format):
     romtool("build", format, "m", "image")
     plain = romtool("info", "image")[0]
     facts = dict(line.split(b" ", 1) for line in plain.splitlines())
-    size = int(facts[b"size"])
-    for limit in 0, size - 1, size, size + 1, 1 << 40:
+    size, file = int(facts[b"size"]), int(facts[b"file"])
+    for limit in 0, size - 1, size, size + 1, file - 1, file, 1 << 40:
         line = b"free %s\nfits %s\nleft %d\n" % (facts[b"gaps"], b"yes" if size <= limit else b"no", max(limit - size, 0))
         assert romtool("info", "--size", str(limit), "image") == (plain + line, b"", int(size > limit))
     told = romtool("--explain", "info", "--size", "5", "image")
     assert said(told) == [f"image: it has {size} bytes, {size - 5} more than 5"]
 
 
-@pytest.mark.parametrize("format, text, line, what", STRICT, ids=[f"{format} {line}" for format, _, line, _ in STRICT])
+@pytest.mark.parametrize("format, text, line, what", STRICT, ids=[f"{format} {line} of {len(text)}" for format, text, line, _ in STRICT])
 def test_strict(romtool, format, text, line, what):
     """Refuses by `--strict` what is warned of, by the least line and number; OUT and the rule stay."""
     lay(text, block=b"x" * 4096, byte=b"x")
@@ -117,18 +122,20 @@ def test_strict(romtool, format, text, line, what):
     refused(romtool, line, "--strict", "--depfile", "d", format, "m", "out")
     told = romtool("--explain", "build", format, "m", "out")
     assert told[2] == 0 and any(f"warning: {what} (" in it for it in said(told))
+    assert what == "Empty" or f" {what} " in romtool("linux", "out")[0].decode()
 
 
-@pytest.mark.parametrize("format", ["romfs", "cramfs"])
-def test_nothing_to_warn_of(romtool, format):
-    """Builds with `--strict` what nothing is warned of."""
-    lay("file /a 0644 0 0 4 byte\n", byte=b"x")
+@pytest.mark.parametrize("format, more", [("romfs", ""), ("cramfs", ""), ("cramfs", "same /b 0644 1 2 /a\n")])
+def test_nothing_to_warn_of(romtool, format, more):
+    """Builds with `--strict` what nothing is warned of, such as files that share their contents and are alike."""
+    lay(f"file /a 0644 {'1 2' if more else '0 0'} 4 byte\n{more}", byte=b"x")
     assert romtool("--explain", "build", "--strict", format, "m", "out")[1:] == (b"", 0)
+    assert romtool("linux", "out") == (b"", b"", 0)
 
 
 def random_lines(chance):
     """Yields the lines of a manifest with much that Linux misreads."""
-    files, names = [], []
+    files, names, owners = [], [], chance.choice([["0 0"], ["0 0"], ["0 0", "0 0", "1 0", "0 1"]])
     if chance.random() < 0.3:
         yield f"dir / {chance.choice(['0755', '0700', '0555', '0711'])} 0 0"
     yield from ("dir /d 0755 0 0", "dir /e 0755 0 0")
@@ -137,13 +144,13 @@ def random_lines(chance):
     for number in range(chance.randrange(1, 12)):
         length = chance.choice([3, 3, 3, 120, 127, 128, 129, 143, 144, 200])
         path = chance.choice(["", "/d", "/e"]) + "/" + f"{chance.randrange(16):x}" * (length - 2) + f"{number:02d}"
-        mode = chance.choice(["0644", "0755"])
+        mode, owner = chance.choice(["0644", "0755"]), chance.choice(owners)
         word = chance.choice(["file", "file", "file", "same", "same", "hard", "slink", "nod", "pipe"])
         if not files and word in ("same", "hard"):
             word = "file"
         yield f"{word} {path} " + {
-            "file": lambda: f"{mode} 0 0 {chance.choice([4, 4096])} s{chance.randrange(5)}",
-            "same": lambda: f"{mode} 0 0 {chance.choice(files)}",
+            "file": lambda: f"{mode} {owner} {chance.choice([4, 4096])} s{chance.randrange(5)}",
+            "same": lambda: f"{mode} {owner} {chance.choice(files)}",
             "hard": lambda: chance.choice(names),
             "slink": lambda: "0777 0 0 to",
             "nod": lambda: f"0600 0 0 c {chance.choice([1, 255, 4095, 4096, 65535])} 3",
@@ -176,7 +183,7 @@ def test_foreseen(romtool, here, seed):
     for format in FORMATS:
         _, told, status = romtool("--explain", "build", format, "m", "out")
         if status:
-            assert format != "romfs" or "dir / 07" in text or "dir / 05" in text
+            assert format != "romfs" or re.search(r"^dir / 0[57]|^(file|same) \S+ \d+ (1 0|0 1) ", text, re.M)
             continue
         counts = collections.Counter(int(line.split()[1]) for line in romtool("linux", "out")[0].splitlines())
         found = re.findall(r"warning: (\w+) \((\d+)\): .*; files: (\d+), first ", told.decode())
@@ -214,8 +221,9 @@ def test_standard_input(romtool, here):
 def test_one_line(romtool):
     """Builds what a scan prints, in one line of a shell."""
     os.mkdir("in")
+    os.chmod("in", 0o755)
     put("in/x", b"x" * 100)
-    line = '"$0" scan --all in | "$0" build cramfs --strict - out'
+    line = '"$0" scan --all --all-root in | "$0" build cramfs --strict - out'
     done = subprocess.run(["sh", "-c", line, romtool.path], capture_output=True, timeout=SECONDS)
     assert answer(done) == (b"ok 4096\n", b"", 0)
     assert romtool("cat", "out", "/x")[0] == b"x" * 100

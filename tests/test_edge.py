@@ -218,7 +218,7 @@ def rewriting(names):
     def rewrite():
         with contextlib.ExitStack() as opened:
             files = [opened.enter_context(open(name, "r+b", buffering=0)) for name in names]
-            for byte in itertools.cycle(b"AB"):
+            for byte in itertools.cycle(b"XY"):
                 for file in files:
                     os.pwrite(file.fileno(), bytes([byte]) * LENGTH, HEAD)
                 if ended.wait(0.002):  # so that builds see some of them whole
@@ -237,7 +237,7 @@ def rewriting(names):
 @pytest.mark.parametrize("format", FORMATS)
 def test_rewritten_while_read(romtool, format):
     """Puts no mixture into an image of a source that is rewritten while it is read."""
-    lay("file /a 0644 0 0 4 s\nfile /b 0644 0 0 4 t\n", s=bytes(HEAD) + b"A" * LENGTH, t=bytes(HEAD) + b"A" * LENGTH)
+    lay("file /a 0644 0 0 4 s\nfile /b 0644 0 0 4 t\n", s=bytes(HEAD) + b"X" * LENGTH, t=bytes(HEAD) + b"X" * LENGTH)
     answers = []
     with rewriting("st"):
         for _ in range(5):
@@ -246,7 +246,8 @@ def test_rewritten_while_read(romtool, format):
             if answers[-1][2]:
                 assert answers[-1][2] == 3 and bytes_in("out") == b"as it was"
             else:
-                assert [bytes_in("out").count(byte) % LENGTH for byte in (b"A", b"B")] == [0, 0]
+                # (a block pointer of cramfs has single bytes of any value)
+                assert [len(it) for it in re.findall(b"X{99,}|Y{99,}", bytes_in("out"))] == [LENGTH, LENGTH]
     assert CHANGED in answers
 
 

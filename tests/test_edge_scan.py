@@ -22,7 +22,7 @@ import pytest
 import traced
 from files import bytes_in, innermost, put, remove, text_of, wait_for_clock, write_below
 from harness import SECONDS
-from romtool import answer, escaped, prints, refuses, run
+from romtool import answer, entries, escaped, prints, refuses, run
 from rooms import IS_ROOT, become_nobody
 from scans import scanned
 
@@ -304,6 +304,31 @@ def test_changed_between_calls(romtool, here, what):
             assert got == (whole(words) if at < first else old), call.text
 
 
+FILE_CHANGES = {
+    "another mode": lambda name: os.chmod(name, 0o640),
+    "rewritten": lambda name: rewritten(name),
+    "longer": lambda name: os.truncate(name, 100),
+    "another name": lambda name: os.link(name, "aside/further"),
+}
+
+
+@needs_strace
+@pytest.mark.parametrize("what", FILE_CHANGES)
+def test_file_changed_between_calls(romtool, here, what):
+    """Refuses a file that changed since it was looked at first and until it was looked at last; otherwise the manifest is old or new."""
+    words = ["scan", "--all"]
+    lay_folder()
+    made = calls_of_names(romtool, words)
+    places = looked(made, b"in/d/x")
+    assert len(places) > 1
+    for at, call in enumerate(made):
+        lay_folder()
+        old = whole(words)
+        got = answer_held(romtool, words, call, lambda: FILE_CHANGES[what]("in/d/x"))
+        wanted = whole(words) if at < min(places) else old if at >= max(places) else refused("in/d/x")
+        assert got == wanted, call.text
+
+
 @needs_strace
 @by_scan
 @pytest.mark.parametrize("move", MOVES, ids=" ".join)
@@ -342,6 +367,40 @@ def test_pipe_that_takes_a_name(romtool, here):
     for at in looked(made, b"in/x")[:-1]:
         lay(texts)
         assert answer_held(romtool, words, made[at], lambda: in_place("in/x", os.mkfifo)) in (refused("in"), refused("in/x"))
+
+
+def rewritten(name):
+    """Writes the last byte of a file once more."""
+    with open(name, "r+b") as file:
+        file.seek(-1, os.SEEK_END)
+        file.write(b"x")
+
+
+# what happens to equal files while `--dedupe` compares them: which one, the call on one of them, and its place among those of its name
+CHANGES = {
+    "longer while it is read": ("a", "a", "read", 0, lambda name: os.truncate(name, 50000)),
+    "shorter while it is read": ("a", "a", "read", 0, lambda name: os.truncate(name, 20000)),
+    "rewritten while it is read": ("a", "a", "read", 0, rewritten),
+    "rewritten when it was read": ("a", "a", "read", -1, rewritten),
+    "another mode when it was read": ("b", "b", "read", -1, lambda name: os.chmod(name, 0o600)),
+    "rewritten while another one is read": ("a", "b", "read", 0, rewritten),
+    "rewritten when all were read": ("a", "b", "close", -1, rewritten),
+    "longer before it is opened": ("b", "a", "close", -1, lambda name: os.truncate(name, 50000)),
+    "longer when all were read": ("b", "b", "close", -1, lambda name: os.truncate(name, 50000)),
+}
+
+
+@needs_strace
+@pytest.mark.parametrize("what", CHANGES)
+def test_equal_files_that_change(romtool, here, what):
+    """Reports a file that changes while `--dedupe` compares it with others, or after that."""
+    words, texts = ["scan", "--all", "--dedupe", "--for", "cramfs"], {name: "x" * 40000 for name in ("in/a", "in/b")}
+    of, at, name, number, change = CHANGES[what]
+    lay(texts)
+    made = traced.calls(romtool.path, *words, "in")[0]
+    call = [it for it in traced.on_file(made, f"in/{at}") if it.name == name][number]
+    lay(texts)
+    assert answer_held(romtool, words, call, lambda: change(f"in/{of}")) == refused(f"in/{of}")
 
 
 # of two files, at each moment at most one has the mode 0644
@@ -538,6 +597,19 @@ def test_on_one_file_system(romtool, here, words):
     plain = ["dir /d", "file /d/a", "dir /d/mnt", *["dir /"] * ("--all" in words)]
     assert mounted(romtool, words, line) == sorted([*plain, "dir /d/mnt/e", "file /d/mnt/x"])
     assert mounted(romtool, [*words, "--one-file-system"], line) == sorted(plain)
+
+
+@needs_root
+def test_packed_on_one_file_system(romtool, here):
+    """Packs a directory that another file system is mounted on as an empty one with `--one-file-system`."""
+    os.makedirs("in/mnt")
+    script = "mount -t tmpfs tmpfs in/mnt 2>/dev/null || exit 77; echo x >in/mnt/x"
+    for words, names in ([], ["/", "/mnt", "/mnt/x"]), (["--one-file-system"], ["/", "/mnt"]):
+        done = run("unshare", "-m", "sh", "-c", script + '; exec "$@"', "sh", romtool.path, "pack", "--quiet", *words, "romfs", "in", "out")
+        if done.returncode == 77:
+            pytest.skip("nothing can be mounted")
+        assert answer(done) == prints("ok 1024")
+        assert [it.path for it in entries(romtool.path, "out")] == names
 
 
 @pytest.mark.needs("fuse")

@@ -87,6 +87,15 @@ def shared(romtool, room, seed):
     return of_case(romtool, room, layouts.cramfs(layouts.DIRECT_POINTERS, root, body))
 
 
+def empty_beside(romtool, room):
+    """Makes a cramfs image of files whose offset is that of the block pointers of one of them, and of which the others are empty."""
+    at = 76 + 3 * 16
+    inodes = b"".join(layouts.inode(layouts.CRAMFS_REGULAR, size, at, name) for name, size in ((b"a", 0), (b"b", 5), (b"c", 0)))
+    body = inodes + layouts.pointers(at + 4, 1) + b"hello"
+    root = layouts.inode(layouts.CRAMFS_DIRECTORY, len(inodes), 76)
+    return of_case(romtool, room, layouts.cramfs(layouts.DIRECT_POINTERS, root, body))
+
+
 def odd_names(romtool, room):
     """Builds an image whose names have each byte that a name may have."""
     names = [escaped(b"/" + bytes([byte]) + b"?<&\"'>") for byte in range(1, 256) if byte not in b"/."]
@@ -108,7 +117,7 @@ def many(romtool, room):
     return romtool.build(room, lines, "romfs", [b"x" * 100])
 
 
-NAMED = {"odd names": odd_names, "tricky names": tricky_names}
+NAMED = {"empty beside": empty_beside, "odd names": odd_names, "tricky names": tricky_names}
 ALL = pytest.mark.images(also={**NAMED, "many": many, **{f"shared {it}": partial(shared, seed=it) for it in range(1, 121)}})
 COMPILED = pytest.mark.images(cases=False, step=4, also={**NAMED, **{f"shared {it}": partial(shared, seed=it) for it in range(4, 121, 4)}})
 

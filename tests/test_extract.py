@@ -319,6 +319,19 @@ def test_untold(romtool, kind):
     assert romtool("extract", "image", "out") == wanted and not os.path.lexists("out")
 
 
+@pytest.mark.parametrize("kind", ["name", "text"])
+def test_beside_untold(romtool, kind):
+    """Makes what patterns choose beside what no file system can have, and reports this if it is chosen as well."""
+    names = [(layouts.REGULAR, 0, 1, b"good", b"x"), (3, 0, 1, b"l", b"\xff") if kind == "text" else (layouts.REGULAR, 0, 0, b"a\xff", b"")]
+    put("image", layouts.romfs_list([], first=names))
+    assert romtool("extract", "image", "out", "good") == (b"", b"", 0)
+    assert (os.listdir("out"), bytes_in("out/good")) == (["good"], b"x")
+    wanted = UNTOLD[kind][1]
+    for words in ["*"], ["good", "?" if kind == "text" else "/"], []:
+        remove("out")
+        assert romtool("extract", "image", "out", *words) == wanted and not os.path.lexists("out")
+
+
 def test_long_volumes(romtool):
     """Prints the longest volume that a manifest has."""
     put("image", with_volume(b"v %\n" + b"v" * 251))
@@ -584,6 +597,14 @@ def test_interrupted(romtool, small, there, mode, name):
     failed(romtool, ["extract", "image", "out"], "write", "signal=" + name, 1)
     signal.signal(signal.SIGINT, before)
     assert stat.S_IMODE(os.stat("out").st_mode) == mode and not os.path.exists("out/.romtool-probe")
+
+
+@pytest.mark.needs("strace")
+def test_probe_that_stays(romtool, small):
+    """Says that the file that shows the process's mask could not be removed, as in a directory to which files are only added."""
+    os.mkdir("out", 0o755)
+    out, err, status = failed(romtool, ["--explain", "extract", "image", "out"], "unlink", "error=EPERM", 1)
+    assert (out, err, status) == fault("out", b"romtool: out: the file .romtool-probe in it could not be removed: remove it\n")
 
 
 @pytest.mark.needs("strace")

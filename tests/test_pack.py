@@ -5,11 +5,12 @@ if a file is added, changed or removed. A scan under fakeroot is refused if fake
 """
 
 import os
+import re
 import shutil
 import subprocess
 
 import pytest
-from files import bytes_in, put, write_below
+from files import bytes_in, put, repository_text, write_below
 from harness import SECONDS
 from romtool import FORMATS, prints, refuses
 from scans import make_random
@@ -101,6 +102,22 @@ def test_table(romtool, app):
     assert romtool.line("check out")[2] == 0
 
 
+def test_masks(romtool, here):
+    """Two copies of a directory that were made under other umasks have two images, until README's command makes their modes alike."""
+    alike = re.search(r"`(chmod -R \S+) app`", repository_text("README.md"))[1]
+    images = []
+    for mask in ("022", "002"):
+        lines = f"umask {mask}; mkdir -p {mask}/etc; echo hello >{mask}/etc/motd; echo '#!/bin/sh' >{mask}/init; chmod +x {mask}/init"
+        subprocess.run(["sh", "-ec", lines], check=True)
+        for name, change in ((mask + ".before", "true"), (mask + ".after", f"{alike} {mask}")):
+            subprocess.run(change, shell=True, check=True)
+            assert romtool("pack", "--quiet", "--all-root", "cramfs", mask, name)[2] == 0
+            images.append(bytes_in(name))
+    assert images[0] != images[2] and images[1] == images[3]
+    modes = [line.split()[1:3] for line in romtool("list", "022.after")[0].decode().splitlines()]
+    assert modes == [["d", "0755"], ["d", "0755"], ["f", "0644"], ["f", "0755"]]
+
+
 def test_words(romtool, app):
     """Explains what is refused without `--explain`, unless there is `--quiet`."""
     out, err, status = romtool.line("pack --size 1.5M cramfs app out")
@@ -111,23 +128,42 @@ def test_words(romtool, app):
     assert (out[:5], *how) == (b"size ", b"", 1)
 
 
-@pytest.mark.parametrize(("files", "line"), [
-    ({"script": b"#!/bin/sh"}, NONE), ({}, NONE),
-    ({"a": PROGRAM}, "1 program is executed in place, except a last page that it shares\n"),
-    ({"a": PROGRAM, "b": PROGRAM, "c": b"c"}, "2 programs are executed in place, except last pages that they share\n"),
-])  # fmt: skip
-def test_programs(romtool, here, files, line):
-    """Says with `--xip` how many programs are executed in place. Without files the table has no largest ones."""
+def test_words_in_quiet(romtool, app):
+    """Says with `--quiet` and `--explain` what is wrong in words, and nothing else."""
+    out, err, status = romtool.line("pack --quiet --explain --size 1.5M cramfs app out")
+    assert (out, err[:13], b"N is a number" in err, status) == (b"", b"usage\nerror: ", True, 2)
+    assert romtool.line("pack --quiet --explain --all-root romfs app out")[1:] == (b"", 0)
+
+
+UNALIGNED = "Linux copies a program whose first byte is not at the front of a page; give it an ALIGN of 4096 (--align 4096)\n"
+SHARED = "programs with a last page that other data share, which is copied: 1\n"
+
+
+@pytest.mark.parametrize("files", [{"script": b"#!/bin/sh"}, {}, {"a": PROGRAM}, {"a": PROGRAM, "b": PROGRAM + b"b", "c": b"c"}])
+@pytest.mark.parametrize("option", [" --xip", ""])
+def test_programs(romtool, here, files, option):
+    """Says which programs are executed in place, with the pages of `xip`. Without files the table has no largest ones."""
     os.mkdir("top")
     for name, held in files.items():
         put(f"top/{name}", held, 0o755)
-    _, err, status = romtool.line("pack --align 4096 --xip cramfs top out")
-    assert (line in err.decode(), b"the largest files:" in err, status) == (True, bool(files), 0)
-    if "a" in files:
-        out, err, status = romtool.line("pack --xip cramfs top out")
-        assert (out.split(b" ")[2:], status) == ([b"unaligned", b"/a\n"], 1)
-        why = b"Linux copies a program whose first byte is not at the front of a page; give it an ALIGN of 4096 (--align 4096 "
-        assert b"romtool: /a: " + why in err
+    count = len([it for it in files.values() if it.startswith(b"\x7fELF")])
+    _, err, status = romtool.line(f"pack --align 4096{option} cramfs top out")
+    _, _, in_place, copied, _ = romtool.line("xip out")[0].splitlines()[-1].decode().split()
+    line = f"programs executed in place: {count} of {count}; pages in place: {in_place}, copied: {copied}\n" if count else NONE
+    assert (line in err.decode(), b"the largest files:" in err, status) == (count > 0 or option != "", bool(files), 0)
+    assert (SHARED in err.decode()) == any(it.startswith(b"shared") for it in romtool.line("xip out")[0].splitlines())
+
+
+def test_programs_that_are_copied(romtool, here):
+    """Says which programs are not executed in place, and what helps; with `--xip` the first of them refuses the image."""
+    write_below("top", {"b": ""})
+    put("top/a", PROGRAM, 0o755)
+    _, err, status = romtool.line("pack cramfs top out")
+    assert (f"not in place: /a: {UNALIGNED}" in err.decode(), b"programs executed in place: 0 of 1; " in err, status) == (True, True, 0)
+    out, err, status = romtool.line("pack --xip cramfs top out")
+    assert (out.split(b" ")[2:], status) == ([b"unaligned", b"/a\n"], 1)
+    assert f"romtool: /a: {UNALIGNED}" in err.decode()
+    assert b"use cramfs\n" in romtool.line("pack --align 4096 romfs top out")[1]
 
 
 @pytest.mark.parametrize(("words", "told"), [

@@ -16,7 +16,7 @@ import pytest
 from files import bytes_in, put, text_of, write_below
 from harness import SECONDS
 from romtool import FORMATS, escaped, prints, refuses
-from rooms import NOBODY
+from rooms import IS_ROOT, NOBODY
 from scans import Told, elf, make_random, scanned
 
 OWNERS = [["--all-root"], ["--owner", "1:2"], ["--owner", "70000:300"], ["--owner", "4294967295:4294967295"]]
@@ -41,6 +41,14 @@ MAKEDEVS = """# <name>\t<type> <mode> <uid> <gid> <major> <minor> <start> <inc> 
 /var/www/data d 750 33 33
 /dev d 711 0 0 - - - - -
   /init f 755 0 0
+/dev/ram b 640 0 6 1 4 2 3 4
+"""
+ROWS = """/srv/new/ d 755 1 1
+/srv3 d 755 5 6
+/srv/one c 600 1 1 5 6 7 1 1
+/srv/ r -1 3 4
+/srv/late p 600 5 5
+/srv/link F 600 9 9
 """
 # what is wrong in a line of `--devices`, behind a directory /one and a FIFO /two
 BAD_DEVICES = {
@@ -69,10 +77,13 @@ TREE = {
     "small/a": "a", "there": "old", "table/dev/null": "", "devices": DEVICES, "twice": "pipe /x 0600 0 0\n\npipe /x 0600 0 0\n",
     "modes/bin/a": "a",
     "mode-lines": "mode /b 4750 1 2\nmode / 0700 3 4\ndir /bin 0711 5 6\npipe /p 0600 0 0\nmode /p 0640 7 8\n",
+    "second-mode": "mode /bin/a 4711 7 8\n",
+    "both-modes": "mode /bin/a 0700 1 1\nmode /b 0710 2 2\nmode /bin/a 0711 3 3\n",
+    "second-row": "/bin/a f 4711 7 8\n", "lower/x/y": "", "upper/x": "",
     "bad-mode": "mode /b 0750 1 2\nmode /none 0750 1 2\n", "folder-list": "dir /bin 0711 5 6\ndir /new 0755 0 0\n",
     "root/etc/passwd": "", "root/etc/shadow": "", "root/init": "", "makedevs": MAKEDEVS,
-    "rows/srv/a": "", "row-lines": "dir /srv 0700 1 1\nmode /srv 0711 2 2\nmode /srv/one 0640 6 6\n",
-    "row-table": "/srv/new/ d 755 1 1\n/srv/one c 600 1 1 5 6 7 1 1\n/srv/ r -1 3 4\n/srv/late p 600 5 5\n/srv/link F 600 9 9\n",
+    "rows/srv/a": "", "rows/srv2/b": "", "row-lines": "dir /srv 0700 1 1\nmode /srv 0711 2 2\nmode /srv/one 0640 6 6\n",
+    "row-table": ROWS,
     "equal/a": LARGE, "equal/b": LARGE, "equal/c": OTHER, "equal/d": LARGE, "equal/e": "", "equal/f": "", "equal/h": OTHER,
     "list": "# nothing\n", "no-table": "# nothing\n",
     "strict/a": "", "strict/b": "", "strict/c": "", "strict/d": "", "strict/e": "",
@@ -97,16 +108,32 @@ PRINTED = {
     "--all-root --devices mode-lines modes": [
         "dir / 0700 3 4", "file /b 4750 1 2 4 modes/b", "dir /bin 0711 5 6", "hard /bin/a /b", "pipe /p 0640 7 8",
     ],
+    # all names of a file have the attributes that were set last, by whichever of them
+    "--all-root --devices second-mode modes": [
+        "dir / 0755 0 0", "file /b 4711 7 8 4 modes/b", "dir /bin 0755 0 0", "hard /bin/a /b",
+    ],
+    "--all-root --for cramfs --devices second-mode modes": [
+        "dir / 0755 0 0", "file /b 4711 7 8 4 modes/b", "dir /bin 0755 0 0", "same /bin/a 4711 7 8 /b",
+    ],
+    "--all-root --for cramfs --devices both-modes modes": [
+        "dir / 0755 0 0", "file /b 0711 3 3 4 modes/b", "dir /bin 0755 0 0", "same /bin/a 0711 3 3 /b",
+    ],
+    "--all-root --device-table second-row modes": [
+        "dir / 0755 0 0", "file /b 4711 7 8 4 modes/b", "dir /bin 0755 0 0", "hard /bin/a /b",
+    ],
+    # the numbers of several devices rise by the increment, and those in their names by one
     "--owner 9:9 --device-table makedevs root": [
         "dir / 0755 9 9", "dir /dev 0711 0 0", "nod /dev/hda1 0640 0 6 b 3 1", "nod /dev/hda2 0640 0 6 b 3 2",
-        "nod /dev/hda3 0640 0 6 b 3 3", "pipe /dev/log 0600 1 1", "nod /dev/tty 0666 0 0 c 5 0", "dir /etc 0755 7 8",
+        "nod /dev/hda3 0640 0 6 b 3 3", "pipe /dev/log 0600 1 1", "nod /dev/ram2 0640 0 6 b 1 4", "nod /dev/ram3 0640 0 6 b 1 7",
+        "nod /dev/ram4 0640 0 6 b 1 10", "nod /dev/ram5 0640 0 6 b 1 13", "nod /dev/tty 0666 0 0 c 5 0", "dir /etc 0755 7 8",
         "file /etc/passwd 0644 7 8 4 root/etc/passwd", "file /etc/shadow 0600 0 0 4 root/etc/shadow",
         "file /init 0755 0 0 4 root/init", "dir /var 0755 0 0", "dir /var/www 0755 0 0", "dir /var/www/data 0750 33 33",
     ],
     # each row acts on what was found and on what the rows before it made, except on symbolic links
     "--all-root --device-table row-table --devices row-lines rows": [
         "dir / 0755 0 0", "dir /srv 0711 2 2", "file /srv/a 0644 3 4 4 rows/srv/a", "pipe /srv/late 0600 5 5",
-        "slink /srv/link 0777 0 0 a", "dir /srv/new 0755 3 4", "nod /srv/one 0640 6 6 c 5 6",
+        "slink /srv/link 0777 0 0 a", "dir /srv/new 0755 3 4", "nod /srv/one 0640 6 6 c 5 6", "dir /srv2 0755 0 0",
+        "file /srv2/b 0644 0 0 4 rows/srv2/b", "dir /srv3 0755 5 6",
     ],
     # files with equal bytes and attributes share contents, and no others
     "--all-root --dedupe --for cramfs --align b=8 equal": [
@@ -129,6 +156,10 @@ REFUSED = {
     f"pack --quiet {READ} cramfs equal no-table": "file no-table",
     f"pack --quiet {READ} cramfs equal list": "file list",
     f"pack --quiet {READ} cramfs equal equal/b": "file equal/b",
+    "scan --all lower upper": "file upper/x",
+    "scan --all upper lower": "file lower/x",
+    "scan --all --exclude none lower lower upper": "file upper/x",
+    "pack --quiet romfs lower upper there": "file upper/x",
     "scan --all --devices no table": "file no",
     "scan --all --devices twice table": "manifest 3 5 Exists",
     "scan --all --all-root --devices bad-mode modes": "manifest 2 7 BadTarget",
@@ -146,6 +177,8 @@ REFUSED = {
     "scan --all --exclude=[! small": "usage",
     "scan --all --exclude=[] small": "usage",
     f"scan --all --volume {'v' * 256} small": "usage",
+    "scan --all --align 5 small": "usage",
+    "scan --all --align 128K small": "usage",
 }
 
 
@@ -287,6 +320,19 @@ def test_libraries(romtool, here, align):
     assert romtool("scan", *words) == (scanned(*words), b"", 0)
 
 
+def test_owners(romtool, tree):
+    """Has the owner that is asked for, and otherwise that of each file, of which cramfs holds numbers up to 65,535 and 255."""
+    own = (7, 8) if IS_ROOT else (os.getuid(), os.getgid())
+    for name in ("small", "small/a") if IS_ROOT else ():
+        os.chown(name, *own)
+    for words, (user, group) in ("", own), ("--all-root ", (0, 0)), ("--owner 1:2 ", (1, 2)):
+        told = [f"{user} {group}", f"{min(user, 65535)} {min(group, 255)}"]
+        plain, fitted = ([f"dir / 0755 {owner}", f"file /a 0644 {owner} 4 small/a"] for owner in told)
+        assert romtool.line(f"scan --all {words}small") == prints(*plain)
+        assert romtool.line(f"pack --quiet {words}--manifest kept cramfs small image") == prints("ok 4096")
+        assert text_of("kept").splitlines() == fitted
+
+
 def test_output(romtool, tree):
     """Replaces the file of `-o`, whose mode stays."""
     names = os.listdir(".")
@@ -363,7 +409,7 @@ def test_rule_of_pack(romtool, tree):
     """Names in the rule of `--depfile` all that decides what an image has."""
     assert romtool.line(f"pack --quiet {READ} --depfile rule cramfs equal rows image")[1:] == (b"", 0)
     files = [f"equal/{name}" for name in "abcdefgh"]
-    assert sorted(rule()[1:]) == sorted([*files, "equal", "list", "no-table", "rows", "rows/srv", "rows/srv/a"])
+    assert sorted(rule()[1:]) == sorted([*files, "equal", "list", "no-table", "rows", "rows/srv", "rows/srv/a", "rows/srv2", "rows/srv2/b"])
 
 
 def test_bytes_saved(romtool, tree):

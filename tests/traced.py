@@ -81,6 +81,18 @@ def calls_in(log):
             yield Call(name, counts[name], line.rstrip("\n"))
 
 
+def on_file(made, name):
+    """Yields the calls on a file that is opened by this name, from its opening to its closing, once for each opening."""
+    number = None
+    for call in made:
+        if call.name == "openat" and f'"{name}", ' in call.text:
+            number = call.text.rsplit(" = ", 1)[1]
+            yield call
+        elif number and re.match(rf"\w+\({number}[,)]", call.text):
+            yield call
+            number = None if call.name == "close" else number
+
+
 class Held:
     """A run that is held at one of its calls of the system while the block is executed; then it goes on to its end.
 

@@ -3,8 +3,8 @@
 
 Both programs make each run of a case, each in its own directory. The output, messages, status, rest of input and files
 have to be the same. The library for C of tools/unproved --library answers `check`, `list` and `serve` of the cases as the proved
-program does (answers.c, see c.py), by the files that it has beside it; and tools/rom32 makes a library of its module. The last
-line is `N passed, M failed`, with `, K skipped` if cases were skipped.
+program does (answers.c, see c.py), by the files that it has beside it; and tools/rom32 makes a library of its module. The command
+lines of docs/C.md are run over it. The last line is `N passed, M failed`, with `, K skipped` if something was skipped.
 """
 
 import os
@@ -14,10 +14,23 @@ import sys
 import tempfile
 
 import c
+import command_lines  # it makes the modules of tools/ known
+import installation
+from files import put
 from harness import HERE, Counts, missing, parser, program_of
 from run import lay_out, named_cases, started
 
 TOOL = os.path.join(HERE, "..", "tools", "unproved")
+# firmware with a check, which needs all of the library and the heap over an array
+FIRMWARE = b"""#include "romtool_heap.h"
+static uint64_t room[4096];
+static uint8_t bytes[76];
+int main(void) {
+    struct romtool_image image = ROMTOOL_INIT;
+    romtool_area(room, sizeof room);
+    return (int)romtool_check(&image, bytes, sizeof bytes);
+}
+"""
 
 
 def built(folder, counts):
@@ -77,6 +90,17 @@ def by_library(proved, folder, counts):
     words = [os.path.join(HERE, "..", "tools", "rom32"), "thumbv7m", "--module", "library/rom_c.ll", "-o", "thumbv7m.a"]
     done = c.said(words, cwd=folder)
     counts.equal("tools/rom32 of the unproved module", (done.returncode, done.stdout[-300:] * bool(done.returncode)), (0, b""))
+    documented(proved, folder, counts)
+
+
+def documented(program, folder, counts):
+    """Runs the command lines of C.md over the unproved library, in the place of the proved one."""
+    if tool := missing("arm-none-eabi-gcc", "rt") or (None if installation.has_fuse() else "libfuse3-dev"):
+        counts.skips("the commands of docs/C.md: there is no %s" % tool)
+        return
+    shutil.copy(folder + "/thumbv7m.a", folder + "/library")
+    put(folder + "/library/firmware.c", FIRMWARE)
+    command_lines.run_document("docs/C.md", program, counts, library=folder + "/library")
 
 
 def main():

@@ -49,16 +49,20 @@ def segments(name):
             yield offset, address, filed, held, "W" in found[5]
 
 
-def pages(loads):
-    """The pages that cannot be written, those that can, those of zeros, and where the bytes of the last segment end."""
+def pages(loads, is_linked=False):
+    """The pages that are not written, those that can be, those of zeros, and where the bytes of the last segment end.
+
+    The dynamic linker writes zeros behind the bytes of a segment of a library, even if the segment cannot be written.
+    """
     fixed = written = zeros = used = 0
     for offset, address, filed, held, is_written in loads:
         ends = [-(-(address % PAGE + it) // PAGE) for it in (filed, held)]
         zeros += ends[1] - ends[0]
         if filed:
             used = max(used, offset + filed)
-            written += ends[0] if is_written else 0
-            fixed += 0 if is_written else ends[0]
+            zeroed = not is_written and is_linked and held > filed and (address + filed) % PAGE > 0
+            written += ends[0] if is_written else zeroed
+            fixed += 0 if is_written else ends[0] - zeroed
     return fixed, written, zeros, used
 
 
@@ -73,8 +77,10 @@ def expected(image, files, base=0, is_romfs=False, no_mmu=False, advice=False, m
                 front = image[at - PAGE + 1 : at]
                 lines.append("object %s %s %d" % (path, place, len(front) - len(front.rstrip(b"\0"))))
             continue
-        fixed, written, zeros, used = pages(loads)
-        if fixed and not no_mmu:
+        fixed, written, zeros, used = pages(loads, not no_mmu and is_linked(*numbers_in(held)))
+        if written and not fixed:
+            reason = "writable"
+        elif fixed and not no_mmu:
             reason = "romfs" if is_romfs else "unaligned" if (base + at) % PAGE else None
         if fixed and not reason and path in moved:
             reason = "textrel"
@@ -153,6 +159,11 @@ def numbers_in(held):
     return kind, out
 
 
+def is_linked(kind, headers):
+    """Whether the dynamic linker may load an ELF file: it is of the type ET_DYN, and has bytes for dynamic linking."""
+    return kind == 3 and any(it[0] == 2 and it[4] for it in headers)
+
+
 def changed_line(path, held, at):
     """The line of a changed ELF file at an offset of a cramfs image that begins with a page, and what it adds to the totals."""
     found = numbers_in(held)
@@ -164,7 +175,9 @@ def changed_line(path, held, at):
     for _, _, offset, address, filed, memory in loads:
         if filed and (offset % PAGE != address % PAGE or memory < filed or offset + filed > len(held)):
             return "not %s 0x%08x unloadable 0\n" % (path, at), (1, 0, 0, 1)
-    fixed, written, zeros, _ = pages((*it[2:], it[1] & 2) for it in loads)
+    fixed, written, zeros, _ = pages(((*it[2:], it[1] & 2) for it in loads), is_linked(*found))
+    if written and not fixed:
+        return "not %s 0x%08x writable %d\n" % (path, at, written), (1, 0, written, 1)
     return "xip %s 0x%08x %d %d %d\n" % (path, at, fixed, written, zeros), (1, fixed, written, 0)
 
 
@@ -265,6 +278,40 @@ def shared(binary):
     run(binary, "build", "cramfs", "m", "image")
     if b"shared" in run(binary, "xip", "image").stdout:
         yield "it is padded, but reported"
+
+
+def written(binary):
+    """Programs of which each page is written, and libraries with zeros behind the bytes of a segment that cannot be written."""
+    for wide in (False, True):
+        for order in "<>":
+            for kind, loads, want, of_program in (
+                # one segment that can be written, and one without bytes of the file
+                (2, [(1, 7, 0, 0x10000, 5000, 5000)], "not %s writable 2", "not %s writable 2"),
+                (2, [(1, 6, 0, 0x10000, 0, 5000)], "xip %s 0 0 2", "xip %s 0 0 2"),
+                # zeros behind the bytes: in the last page, in more pages, and behind a whole page
+                (3, [(1, 5, 0, 0x10000, 5000, 5001)], "xip %s 1 1 0", "xip %s 2 0 0"),
+                (3, [(1, 5, 0, 0x10000, 5000, 15000)], "xip %s 1 1 2", "xip %s 2 0 2"),
+                (3, [(1, 5, 0, 0x10000, PAGE, 5000)], "xip %s 1 0 1", "xip %s 1 0 1"),
+                (3, [(1, 5, 904, 0x10000 + 904, PAGE - 904, 5000)], "xip %s 1 0 1", "xip %s 1 0 1"),
+                (3, [(1, 5, 0, 0x10000, 4000, 4001)], "not %s writable 1", "xip %s 1 0 0"),
+                (3, [(1, 4, 0, 0x10000, 4000, 4001), (1, 5, PAGE, 0x21000, PAGE, PAGE)], "xip %s 1 1 0", "xip %s 2 0 0"),
+            ):
+                dynamic = [(2, 6, PAGE, 0x30000, 16, 16)]
+                for number, more, line in ((kind, dynamic, want), (3, [], of_program), (2, dynamic, of_program)):
+                    put("one", elf(number, loads + more, 2 * PAGE, wide, order))
+                    put("m", manifest(["one"], PAGE).encode())
+                    run(binary, "build", "cramfs", "m", "image")
+                    for words, text in (((), line), (("--no-mmu",), of_program)):
+                        out = answer(run(binary, "xip", *words, "image"))
+                        first = text % "/one 0x00001000" + "\n"
+                        if not out[0].decode().startswith(first) or out[2] != first.startswith("not"):
+                            yield "%r %r %r: %r, expected %s" % (number, loads + more, words, out, first)
+    # the page that is written is also the shared last page
+    put("one", elf(3, [(1, 5, 0, 0x10000, 5000, 5001), (2, 6, 1000, 0x30000, 16, 16)], 5000))
+    put("data", b"x" * 100)
+    put("m", (manifest(["one"], PAGE) + manifest(["data"], 4)).encode())
+    run(binary, "build", "cramfs", "m", "image")
+    yield from differs(binary, (b"xip /one 0x00001000 1 1 0\ntotal 1 1 1 0\n", b"", 0), "xip", "image")
 
 
 def changed(binary):
@@ -411,7 +458,7 @@ def refused_builds(binary):
     for text, want in (
         ("file /good 0755 0 0 4096 good\n", None),
         ("file /good 0755 0 0 8192 good\nsame /also 0755 0 0 /good\n", None),
-        ("file /loose 0755 0 0 4 loose\n", None),
+        ("file /loose 0755 0 0 4 loose\n", "4 writable /loose"),
         ("file /good 0755 0 0 4 good\n", "4 unaligned /good"),
         ("file /d/%E4%20g 0755 0 0 2048 good\n", "4 unaligned /d/%E4%20g"),
         ("file /good 0755 0 0 4096 good\n\nfile /a 0644 0 0 4 good\nfile /b 0644 0 0 4 good\n", "6 unaligned /a"),
@@ -433,7 +480,7 @@ def refused_builds(binary):
                 yield "%s: %r, and xip says otherwise" % (text, answer(plain))
         put("out", b"old")
         done = answer(run(binary, "build", "--xip", "romfs", "m", "out"))
-        if b"/loose" not in done[0] and "loose" not in text and (done[2] != 1 or bytes_in("out") != b"old"):
+        if done[2] != 1 or bytes_in("out") != b"old":
             yield "%s in romfs: %r" % (text, done)
     told = run(binary, "--explain", "build", "--xip", "cramfs", "m", "out").stderr.decode()
     if told != "romtool: m:4: the dynamic linker writes into its text; compile it with -fPIC\n":
@@ -503,7 +550,7 @@ def compiler():
 
 
 TESTS = (
-    rooms.needs(programs, compiler), rooms.needs(relocations, compiler), shared, changed, flat, scattered, words,
+    rooms.needs(programs, compiler), rooms.needs(relocations, compiler), shared, written, changed, flat, scattered, words,
     refused_builds, failed_calls, rooms.needs(alignments, compiler),
 )  # fmt: skip
 

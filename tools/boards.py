@@ -22,8 +22,8 @@ TEXTS = f"{kit.TOP}/c/embedded"
 # for each target: the machines of programs, in words for compilers; and whether an archive with the proved search is made beside
 # the small one
 MACHINES = {
-    "thumbv6m": ("`-mcpu=cortex-m0`, `cortex-m0plus`, `cortex-m1`", True),
-    "thumbv7m": ("`-mcpu=cortex-m3`, `cortex-m4`, `cortex-m7` with any `-mfloat-abi`", True),
+    "thumbv6m": ("`-mcpu=cortex-m0`, `cortex-m0plus`, `cortex-m1`, `cortex-m23`", True),
+    "thumbv7m": ("`-mcpu=cortex-m3`, `cortex-m4`, `cortex-m7`, `cortex-m33`, `cortex-m55` with any `-mfloat-abi`", True),
     "armv7a": ("`-march=armv7-a` with any `-mfloat-abi`", False),
     "aarch64": ("`-march=armv8-a`, also with `-mgeneral-regs-only` and `-mstrict-align`", False),
     "riscv32": ("`-march=rv32imc`, `rv32imac` with `-mabi=ilp32`", True),
@@ -158,28 +158,45 @@ def module_of(path=None):
             return it.read()
 
 
+# the files that a release for boards has of the repository, with their paths in it
+TAKEN = {
+    **{f"include/{it}": f"include/{it}" for it in ("romtool.h", "romtool_32.h", "romtool_heap.h")},
+    **{f"c/{it}": f"src/{it}" for it in ("area.c", "bytes.c")},
+    **{f"tests/c/{it}": f"examples/{it}" for it in installation.EXAMPLES},
+    **{f"recipes/{it}": f"recipes/{it}" for it in ("zephyr/romtool_fs.c", "zephyr/romtool_fs.h")},
+    **{f"recipes/{it}": f"recipes/{it}" for it in ("u-boot/romtool_uboot.c", "u-boot/romtool_uboot.h")},
+    **{it: it for it in ("web/reader.mjs", "LICENSE")},
+}
+# its pages for users; c/embedded has others, into which values are put
+PAGES = {"docs/C.md": "docs/C.md", "docs/FAULTS.md": "docs/FAULTS.md"}
+OWN = {f"c/embedded/{it}": it for it in ("README.md", "OTHER-TARGETS.md", "TARGETS.md")}
+
+
+def figures():
+    """Returns the table of docs/C.md that tests/figures.py makes: stack and heap of calls."""
+    return re.search(r"<!-- made by tests/figures.py -->\n(.*?)<!-- end -->", installation.content("docs/C.md").decode(), re.S)[1]
+
+
 def files(module):
     """Returns the files of the release for boards, of the text of a module: for each path its bytes and its mode."""
     version, names = installation.version(), list(MACHINES)
-    values = {"version": version, "major": version.partition(".")[0], "targets": ";".join(names)}
+    values = {"version": version, "major": version.partition(".")[0], "targets": ";".join(names), "figures": figures()}
     with tempfile.TemporaryDirectory(prefix="boards-") as room:
         made = Boards(module, room)
         archives = made.all()
         values["sizes"] = made.sizes(archives)
         found = {place(*it): installation.content(path) for it, path in archives.items()}
         found.update(page(archives["wasm32", False], room))
-    for name in ("README.md", "OTHER-TARGETS.md", "TARGETS.md"):
-        found[name] = text_of(name, **values).encode()
+    for name, path in OWN.items():
+        found[path] = text_of(os.path.basename(name), **values).encode()
+    for name, path in PAGES.items():
+        found[path] = installation.installed_text(name, {**TAKEN, **PAGES, **OWN})
     found["lib/cmake/romtool/romtoolConfig.cmake"] = text_of("romtoolConfig.cmake", **values).encode()
     found["lib/cmake/romtool/romtoolConfigVersion.cmake"] = text_of("romtoolConfigVersion.cmake", **values).encode()
     for name in names:
         found[f"lib/pkgconfig/romtool-{name}.pc"] = text_of("romtool.pc", target=name, **values).encode()
-    for name in ("romtool.h", "romtool_heap.h"):
-        found[f"include/{name}"] = installation.content(f"include/{name}")
-    for name in ("area.c", "bytes.c"):
-        found[f"src/{name}"] = installation.content(f"c/{name}")
+    found.update({path: installation.content(name) for name, path in TAKEN.items()})
     found["llvm/romtool32.ll"] = to64.plain(made.texts[32, True, True]).encode()
     found["llvm/romtool64.ll"] = to64.plain(made.texts[64, True, True]).encode()
-    found["web/reader.mjs"] = installation.content("web/reader.mjs")
-    found["LICENSE"], found["LICENSES.txt"] = installation.content("LICENSE"), installation.licences()
+    found["LICENSES.txt"] = installation.licences()
     return {path: (held, 0o644) for path, held in found.items()}

@@ -109,6 +109,11 @@ def c_names(faults):
     return "".join(f'    case {it.number}u: return "{it.name}";\n' for it in faults)
 
 
+def c_sentences(faults):
+    """Returns the sentences for the mount."""
+    return "".join(f'    case {it.number}u: return "{it.sentence}"; /* {it.number} {it.name} */\n' for it in faults)
+
+
 def rust_names(faults):
     """Returns the names for the crate for Rust."""
     names = {it.number: it.name for it in faults}
@@ -143,6 +148,7 @@ PARTS = (
     ("crates/sentences/specs/Faults.antt", IMPORTS, spec_imports),
     ("crates/sentences/specs/Faults.antt", r"(?<=^fault_sentence n =\n).*\Z", spec_sentences),
     ("include/romtool.h", marked("/*", " */"), c_names),
+    ("mount/romtool-mount.c", marked("/*", " */"), c_sentences),
     ("bindings/rust/src/error.rs", marked("//"), rust_names),
     ("bindings/python/romtool/_errors.py", marked("#"), python_names),
 )

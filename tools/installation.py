@@ -16,11 +16,13 @@ LIBRARY = f"{TOP}/crates/rom_c/out/librom_c.a"
 # the pages of docs/ that users read
 GUIDES = ("C", "FAULTS", "LINES", "LINUX", "MANIFEST", "PROTOCOL")
 DOCUMENTS = "share/doc/romtool"
-# the recipes for build systems, by their paths in recipes/ and under share/romtool
+# the programs of tests/c that docs/C.md shows, with the header of the last one
+EXAMPLES = ("first.c", "numbers.c", "reader.c", "recording.c", "recording.h")
+# the recipes for build systems and tar, by their paths in recipes/ and under share/romtool
 RECIPES = {
     **{f"cmake/{it}.cmake": f"cmake/{it}.cmake" for it in ("romtool-config", "romtool-config-version")},
     "make/romtool.mk": "romtool.mk",
-    "romtool-image.sh": "romtool-image.sh",
+    **{f"romtool-{it}.sh": f"romtool-{it}.sh" for it in ("image", "tar")},
 }
 COMPLETIONS = {
     "bash": "share/bash-completion/completions/romtool",
@@ -30,6 +32,8 @@ COMPLETIONS = {
 # how the mount is compiled: for whatever directory it is in, with the hardening of Debian, and without names for a debugger
 MOUNT = ["-std=c11", "-O2", "-fPIE", "-fstack-protector-strong", "-D_FORTIFY_SOURCE=2", "-Iinclude", f"-ffile-prefix-map={TOP}=."]
 MOUNT_LINKED = ["-pie", "-Wl,--gc-sections", "-Wl,--as-needed", "-Wl,-z,relro,-z,now", "-Wl,--build-id=sha1", "-s"]
+# what ends a document that names files which are not installed with it
+NOT_HERE = "\nFiles and pages that are named here without a link are in the repository of romtool.\n"
 PKG_CONFIG = """prefix=${{pcfiledir}}/../..
 includedir=${{prefix}}/include
 libdir=${{prefix}}/lib
@@ -162,15 +166,40 @@ def area_archive():
         return content(f"{room}/libromtool_area.a")
 
 
-def installed_text(name, names):
-    """Returns a document as it is installed with other documents: of a link to a file that is not among them only the words stay."""
+def interface():
+    """Returns the number of the library's interface, which include/romtool.h has."""
+    return re.search(rb"^#define ROMTOOL_INTERFACE (\d+)$", content("include/romtool.h"), re.M)[1].decode()
+
+
+def shared_library(archive):
+    """Returns the bytes of an archive with all of its members as a shared library, whose soname has the number of the interface."""
+    with tempfile.TemporaryDirectory(prefix="romtool-shared-") as room:
+        with open(f"{room}/libromtool.a", "wb") as it:
+            it.write(archive)
+        words = ["-Wl,--whole-archive", "libromtool.a", "-Wl,--no-whole-archive", f"-Wl,-soname,libromtool.so.{interface()}"]
+        words += ["-Wl,--gc-sections", "-Wl,-z,defs", "-Wl,-z,relro,-z,now", "-Wl,-z,noexecstack", "-Wl,--build-id=sha1", "-s"]
+        run("cc", "-shared", *words, "-o", "libromtool.so", cwd=room)
+        return content(f"{room}/libromtool.so")
+
+
+def installed_text(name, places):
+    """Returns a document as it is installed with other files of the repository, which keep their paths or have those of a dictionary.
+    Of a link to a file that is not among them only the words stay, nothing of a picture, and the document then says where that file is."""
+    of = places if isinstance(places, dict) else dict.fromkeys(places)
+    here, left = os.path.dirname(of.get(name) or name), []
 
     def kept(it):
-        target = os.path.normpath(os.path.join(os.path.dirname(name), it[2].partition("#")[0])) if it[2][0] != "#" else name
-        return it[0] if target in names or "://" in it[2] else it[1]
+        path, hash_sign, heading = it[3].partition("#")
+        target = os.path.normpath(os.path.join(os.path.dirname(name), path)) if path else name
+        if target not in of and "://" not in it[3]:
+            left.append(target)
+            return "" if it[1] else it[2]
+        moved = os.path.relpath(of.get(target) or target, here) if path and target in of else path
+        return f"{it[1]}[{it[2]}]({moved}{hash_sign}{heading})"
 
     parts = re.split(r"(^```.*?^```$)", content(name).decode(), flags=re.M | re.S)
-    return "".join(it if it.startswith("```") else re.sub(r"\[([^\]]*)\]\(([^)\s]+)\)", kept, it) for it in parts).encode()
+    text = "".join(it if it.startswith("```") else re.sub(r"(!?)\[([^\]]*)\]\(([^)\s]+)\)", kept, it) for it in parts)
+    return (text + NOT_HERE * bool(left)).encode()
 
 
 def program_files(program):
@@ -179,7 +208,7 @@ def program_files(program):
     found = {"bin/romtool": (content(program), 0o755), "share/man/man1/romtool.1": (manual, 0o644)}
     for shell, path in COMPLETIONS.items():
         found[path] = (completions.text(shell, program).encode(), 0o644)
-    texts = ["README.md", "CHANGELOG.md", *(f"docs/{name}.md" for name in GUIDES)]
+    texts = ["README.md", "CHANGELOG.md", "SECURITY.md", *(f"docs/{name}.md" for name in GUIDES)]
     for name in texts:
         found[f"{DOCUMENTS}/{name}"] = (installed_text(name, [*texts, "LICENSE"]), 0o644)
     found[f"{DOCUMENTS}/LICENSE"] = (content("LICENSE"), 0o644)
@@ -223,9 +252,11 @@ def library_files(archive):
         "lib/cmake/romtool/romtoolConfigVersion.cmake": library_version(),
     }
     found = {path: (text.encode(), 0o644) for path, text in texts.items()}
-    for header in ("romtool.h", "romtool_heap.h"):
+    for header in ("romtool.h", "romtool_32.h", "romtool_heap.h"):
         found["include/" + header] = (content("include/" + header), 0o644)
     found["lib/libromtool.a"] = (whole_archive(archive), 0o644)
+    found[f"lib/libromtool.so.{interface()}"] = (shared_library(found["lib/libromtool.a"][0]), 0o644)
     found["lib/libromtool_area.a"] = (area_archive(), 0o644)
-    found[f"{DOCUMENTS}/examples/first.c"] = (content("tests/c/first.c"), 0o644)
+    for name in EXAMPLES:
+        found[f"{DOCUMENTS}/examples/{name}"] = (content(f"tests/c/{name}"), 0o644)
     return found

@@ -11,6 +11,7 @@ import shutil
 import sys
 
 MADE_FOR = "rattle-kit-13f logic dac8208d650f15bf"
+HOW_TO_GET = f"unpack {MADE_FOR.split()[0]} of the Rattle toolchain (18 GB; no Debian package has it), and put a link to its rt on the PATH"
 TOP = os.path.dirname(os.path.dirname(os.path.realpath(__file__)))
 
 sys.dont_write_bytecode = True
@@ -20,7 +21,7 @@ def program():
     """Returns the path of the toolchain's `rt`."""
     found = shutil.which("rt")
     if not found:
-        sys.exit(f"{os.path.basename(sys.argv[0])}: the toolchain's rt is not on the path")
+        sys.exit(f"{os.path.basename(sys.argv[0])}: the toolchain's rt is not on the path: {HOW_TO_GET}")
     return os.path.realpath(found)
 
 

@@ -1,7 +1,7 @@
 # Images of directories as targets of CMake.
 #
 #     find_package(romtool REQUIRED)
-#     romtool_image(TARGET rootfs FORMAT cramfs OUTPUT rootfs.cramfs DIRECTORY rootfs ALIGN 4096 ALL_ROOT STRICT)
+#     romtool_image(TARGET rootfs FORMAT cramfs OUTPUT rootfs.cramfs DIRECTORY rootfs ALIGN 4096 ALL_ROOT STRICT XIP)
 #
 # The package has the program as romtool::program, found beside the package or on the path, and the function
 #
@@ -53,6 +53,12 @@ function(romtool_image)
     foreach(word TARGET FORMAT OUTPUT)
         if(NOT DEFINED it_${word})
             message(FATAL_ERROR "romtool_image: ${word} is missing")
+        endif()
+    endforeach()
+    # CMake would take such words apart, or replace them
+    foreach(word ${words} DIRECTORY ALIGN EXCLUDE)
+        if("${it_${word}}" MATCHES "[$]<" OR "${it_${word}}" MATCHES "\\\\;" OR (word IN_LIST words AND "${it_${word}}" MATCHES ";"))
+            message(FATAL_ERROR "romtool_image: a word of ${word} has ';' or '$<', which CMake does not keep: ${it_${word}}")
         endif()
     endforeach()
     if(NOT it_FORMAT MATCHES "^(romfs|cramfs|cramfs-be)$")

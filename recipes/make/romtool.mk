@@ -1,7 +1,7 @@
 # Images in a Makefile (GNU make).
 #
 #     include romtool.mk
-#     $(call romtool_image,rootfs.cramfs,cramfs,rootfs,--all-root --align 4096 --strict)
+#     $(call romtool_image,rootfs.cramfs,cramfs,rootfs,--all-root --align 4096 --strict --xip)
 #
 # The arguments of romtool_image are the image, its format, one or several directories, and options of `romtool pack`. Those
 # of romtool_manifest are an image, its format, a manifest and options of `romtool build`. Each run of make builds, and replaces
@@ -22,8 +22,9 @@ romtool_made :=
 define romtool_rule
 $(1): $(2) romtool_always
 	@mkdir -p $$(@D)
-	@said=$$$$($$(ROMTOOL) --explain $(3) $$@.new 2>&1) || { printf '%s\n' "$$$$said" >&2; exit 1; }; \
-	if cmp -s $$@.new $$@; then rm $$@.new; else mv $$@.new $$@ && printf '%s\n' "$$$$said"; fi
+	@shown() { printf '%s\n' "$$$$said" | sed -e 's/\.romtool-new//g' -e 's|^romtool: -:|romtool: $$@.manifest:|'; }; \
+	said=$$$$($$(ROMTOOL) --explain $(3) $$@.romtool-new 2>&1) || { shown >&2; exit 1; }; \
+	if cmp -s $$@.romtool-new $$@; then rm $$@.romtool-new; else mv $$@.romtool-new $$@ && shown; fi
 romtool_made += $(1) $(1).manifest
 endef
 romtool_image = $(eval $(call romtool_rule,$(strip $(1)),,pack $(4) --manifest $$@.manifest $(2) $(3)))

@@ -32,19 +32,7 @@ K_MEM_SLAB_DEFINE_STATIC(directories, sizeof(struct directory), CONFIG_ROMTOOL_D
 
 /* An error of the library as Zephyr has it: its numbers are those of the C library. */
 static int error_of(uint32_t error) {
-    switch (error) {
-    case ROMTOOL_OK: return 0;
-    case ROMTOOL_ENOENT: return -ENOENT;
-    case ROMTOOL_ENOTDIR: return -ENOTDIR;
-    case ROMTOOL_ELOOP: return -ELOOP;
-    case ROMTOOL_ENAMETOOLONG: return -ENAMETOOLONG;
-    case ROMTOOL_EINVAL: return -EINVAL;
-    case ROMTOOL_EBADF: return -EBADF;
-    case ROMTOOL_EISDIR: return -EISDIR;
-    case ROMTOOL_ENXIO: return -ENXIO;
-    case ROMTOOL_MEMORY: return -ENOMEM;
-    default: return -EIO;
-    }
+    return -ROMTOOL_ERRNO(error);
 }
 
 static const struct romtool_image *image_of(const struct fs_mount_t *mount) {

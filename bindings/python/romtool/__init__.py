@@ -12,8 +12,9 @@ The calls are those of the proved library for C (docs/C.md). The package itself 
 
 from ._errors import BudgetError, Fault, ProgramError
 from ._file import File, Run
-from ._image import Budget, Entry, Image, Kind, Stat
+from ._image import Entry, Image, Kind, Stat
 from ._library import LibraryError
+from ._names import Budget
 from ._path import Path
 from ._program import Checked, build, check
 

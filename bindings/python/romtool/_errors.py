@@ -52,6 +52,10 @@ _ERRORS = {
 }
 
 
+# the errors of a path that leads to nothing
+LEADS_NOWHERE = (errno.ENOENT, errno.ENOTDIR, errno.ELOOP)
+
+
 class Fault(ValueError):
     """Reports the least fault of bytes that are not a valid image.
 

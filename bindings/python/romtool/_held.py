@@ -2,19 +2,22 @@
 
 from __future__ import annotations
 
+import collections
 import ctypes
+import functools
+import io
 import mmap
 import os
-from typing import Any, Optional, Union
+from typing import IO, Any, Dict, Iterator, Optional, Tuple, Union
 
 from ._errors import Fault, Name, error_of
 from ._library import FAULT, RawEntry, RawFile, RawImage, RawPlace, library
 
-Source = Union[bytes, bytearray, memoryview, mmap.mmap, str, "os.PathLike[str]", "os.PathLike[bytes]"]
+Source = Union[bytes, bytearray, memoryview, mmap.mmap, str, "os.PathLike[str]", "os.PathLike[bytes]", IO[bytes]]
 
-
-# the bytes of a description
+# the bytes of a description; the error of what is no directory, and the kind of one
 NUMBERS = 48
+NOTDIR, DIRECTORY = 2, 1
 
 
 class _Buffer(ctypes.Structure):
@@ -42,16 +45,31 @@ def _address_of(view: memoryview) -> int:
         _release_buffer(ctypes.addressof(buffer))
 
 
-def _mapped(path: Any) -> Union[bytes, mmap.mmap]:
-    """Returns the bytes of a file, mapped read-only; no bytes if it is empty, since these cannot be mapped."""
-    with open(path, "rb") as file:
-        size = file.seek(0, os.SEEK_END)
-        return mmap.mmap(file.fileno(), size, access=mmap.ACCESS_READ) if size else b""
+def _mapped(file: Any) -> memoryview:
+    """Returns the bytes of a file from its position on, mapped read-only; no bytes if there are none, since these cannot be mapped."""
+    start = file.tell()
+    size = file.seek(0, os.SEEK_END)
+    file.seek(start)
+    return memoryview(mmap.mmap(file.fileno(), size, access=mmap.ACCESS_READ) if size else b"")[start:]
+
+
+def _of_file(file: Any) -> memoryview:
+    """Returns the bytes of an open binary file from its position on: mapped, if it is a file of the system."""
+    if isinstance(file, io.TextIOBase):
+        raise TypeError("the file of an image has to be opened as a binary file, with 'rb'")
+    if isinstance(getattr(file, "raw", file), io.FileIO) and file.seekable():
+        file.flush()
+        return _mapped(file)
+    return memoryview(file.read())
 
 
 def _view_of(source: Source) -> memoryview:
     """Returns a read-only view of the bytes of a source."""
-    view = memoryview(_mapped(source) if isinstance(source, (str, os.PathLike)) else source)
+    if isinstance(source, (str, os.PathLike)):
+        with open(source, "rb") as file:
+            view = _mapped(file)
+    else:
+        view = _of_file(source) if hasattr(source, "read") and not isinstance(source, mmap.mmap) else memoryview(source)
     if not view.c_contiguous:
         raise ValueError("the bytes of an image have to be contiguous")
     return (view.cast("B") if view.nbytes else memoryview(b"")).toreadonly()
@@ -63,8 +81,6 @@ class Held:
     The struct `raw` is written only by the check, or from a description. Each call on a file or directory gets a new struct, so that two
     threads never share one that is written.
     """
-
-    __slots__ = ("library", "raw", "view", "_address")
 
     def __init__(self, source: Source, numbers: Optional[bytes] = None) -> None:
         self.library, self.view, self.raw = library(), _view_of(source), RawImage()
@@ -92,13 +108,41 @@ class Held:
             raise error_of(error, path)
         return file
 
+    def entries(self, number: int, path: Name) -> Iterator[Tuple[bytes, int, int]]:
+        """Returns an iterator over the names of a directory, opened by its number, with the kind and the node of each."""
+        file, entry = self.open_node(number, path), RawEntry()
+        if self.library.romtool_fstat(file).kind != DIRECTORY:
+            raise error_of(NOTDIR, path)
+
+        def entries() -> Iterator[Tuple[bytes, int, int]]:
+            while True:
+                if error := self.library.romtool_readdir(file, entry):
+                    raise error_of(error, path)
+                if not entry.some:
+                    return
+                yield self._name_of(entry), entry.kind, entry.node
+
+        return entries()
+
+    @functools.cached_property
+    def links(self) -> Dict[int, int]:
+        """Has the number of names of each node except the root, as romtool_links counts them: all are counted in one pass."""
+        found: Dict[int, int] = collections.Counter()
+        left = [int(self.raw.root)]
+        while left:
+            for _, kind, number in self.entries(left.pop(), "/"):
+                found[number] += 1
+                if kind == DIRECTORY:
+                    left.append(number)
+        return found
+
     def lent(self, place: RawPlace, path: Name) -> memoryview:
         """Returns the bytes of a place, or raises its error."""
         if place.error:
             raise error_of(place.error, path)
         return self.view[place.at : place.at + place.len]
 
-    def name_of(self, entry: RawEntry) -> bytes:
+    def _name_of(self, entry: RawEntry) -> bytes:
         """Returns the name of an entry."""
         at = entry.name - self._address if entry.name else 0
         return bytes(self.view[at : at + entry.name_len])

@@ -3,10 +3,15 @@
 ROMTOOL has to name the program, and ROMTOOL_LIBRARY the library.
 """
 
+import copy
+import errno
 import gc
+import gzip
 import io
 import mmap
 import os
+import pathlib
+import pickle
 import resource
 import tempfile
 import threading
@@ -26,6 +31,7 @@ SMALL = os.path.join(HERE, "..", "..", "rust", "tests", "small.romfs")
 with open(SMALL, "rb") as small:
     BYTES = small.read()
 MANIFEST = b"dir / 0755 0 0\ndir /d 0755 0 0\nslink /d/up 0777 0 0 ..\nslink /none 0777 0 0 nowhere\nslink /loop 0777 0 0 loop\n"
+LONG = b"x" * 256  # more than a name may have
 
 
 class Images(unittest.TestCase):
@@ -52,6 +58,23 @@ class Images(unittest.TestCase):
             romtool.Image("/nowhere/at/all")
         with self.assertRaises(TypeError):
             romtool.Image(7)
+
+    def test_open_files(self):
+        with open(SMALL, "rb") as file, open(SMALL, "rb", buffering=0) as plain, tempfile.TemporaryFile() as other:
+            other.write(b"12" + BYTES)
+            for source, position in ((file, 0), (plain, 0), (other, 2), (io.BytesIO(BYTES), 0), (io.BytesIO(b"12" + BYTES), 2)):
+                source.seek(position)
+                image = romtool.Image(source)
+                self.assertEqual((image.read("/message"), image.size), (b"hello\n", len(BYTES)))
+                if not isinstance(source, io.BytesIO):  # one that is mapped stays where it is
+                    self.assertEqual((source.tell(), romtool.Image.from_numbers(source, image.numbers).size), (position, len(BYTES)))
+        self.assertEqual(image.read("/message"), b"hello\n")
+        numbers = io.BytesIO(BYTES)
+        self.assertEqual(romtool.Image.from_numbers(numbers, image.numbers).listdir(), image.listdir())
+        with open(SMALL, encoding="latin-1") as text, self.assertRaisesRegex(TypeError, "binary file"):
+            romtool.Image(text)
+        with gzip.open(io.BytesIO(gzip.compress(BYTES))) as packed:
+            self.assertEqual(romtool.Image(packed).read("/message"), b"hello\n")
 
     def test_faults(self):
         with tempfile.NamedTemporaryFile() as empty:
@@ -92,11 +115,11 @@ class Images(unittest.TestCase):
         self.assertTrue(root.is_dir() and root.number == image.lookup("/") and root.st_mode == 0o40755)
         null = image.stat("/null")
         self.assertEqual((null.kind, null.major, null.minor, null.mode), (romtool.Kind.CHARACTER, 1, 3, 0o600))
-        self.assertTrue(image.stat("/message", follow=False).is_symlink())
+        self.assertTrue(image.stat("/message", follow_symlinks=False).is_symlink())
         led = image.stat("/message")
         self.assertTrue(led.is_file() and led.size == 6 and led.number == image.lookup("/etc/motd"))
         self.assertEqual((image.readlink("/message"), image.readlink(b"/message")), ("etc/motd", b"etc/motd"))
-        self.assertEqual((image.exists("/etc"), image.exists("/none")), (True, False))
+        self.assertEqual((image.exists("/etc"), image.exists("/none"), image.exists("/etc/motd/x")), (True, False, False))
         entries = {it.name: it for it in image.scandir("/")}
         self.assertEqual(entries["message"].readlink(), "etc/motd")
         with self.assertRaisesRegex(OSError, "invalid argument: '/etc'"):
@@ -105,7 +128,7 @@ class Images(unittest.TestCase):
     def test_errors_of_paths(self):
         image = self.image
         wrong = {
-            "/none": FileNotFoundError, "": FileNotFoundError, "etc": OSError, "/etc/motd/x": NotADirectoryError,
+            "/none": FileNotFoundError, "": FileNotFoundError, "none": FileNotFoundError, "/etc/motd/x": NotADirectoryError,
             "/etc": IsADirectoryError, "/null": OSError, "/" + "x" * 256: OSError, "/" * 4096: OSError, "/\0": FileNotFoundError,
             b"/\xff": FileNotFoundError, "/\udcff": FileNotFoundError,
         }  # fmt: skip
@@ -118,6 +141,102 @@ class Images(unittest.TestCase):
             image.listdir("/etc/motd")
         with self.assertRaisesRegex(OSError, "invalid argument: '/etc'"):
             image.readlink("/etc")
+
+    def test_paths_begin_at_the_root(self):
+        image = self.image
+        for path in ("etc/motd", b"etc/motd", "/etc/motd", pathlib.PurePosixPath("etc/motd"), "//etc//motd", "./etc/motd"):
+            self.assertEqual((image.lookup(path), image.read(path)), (image.lookup("/etc/motd"), b"hello\n"))
+        for path in ("etc/motd", b"etc/motd", "/etc/motd", "//etc//./motd", pathlib.PurePosixPath("etc", "motd")):
+            self.assertEqual((image.path(path), image.path(path).exists()), (image.root / "etc" / "motd", True))
+        self.assertEqual((image.path(""), image.path("."), str(image.path("/"))), (image.root, image.root, "/"))
+        self.assertEqual([it.path for it in image.scandir("etc")], ["etc/motd", "etc/empty"])
+        self.assertEqual(list(image.walk("etc")), [("etc", [], ["motd", "empty"])])
+
+    def test_whether_paths_lead_to_anything(self):
+        image, long = self.image, "/" + "x" * 256
+        calls = (lambda: image.exists(long), lambda: image.exists("/" * 4096), image.path(long).exists, image.path(long).is_dir)
+        for call in (*calls, image.path(long).is_symlink):
+            with self.assertRaises(OSError) as caught:
+                call()
+            self.assertEqual(caught.exception.errno, errno.ENAMETOOLONG)
+        self.assertEqual((image.exists("/message", follow_symlinks=False), (image.root / "message").is_symlink()), (True, True))
+        message = image.root / "message"
+        self.assertEqual((message.is_file(), message.is_file(follow_symlinks=False), message.is_dir()), (True, False, False))
+
+    def test_arguments_that_are_not_for_budgets(self):
+        for call in (self.image.read, self.image.map, self.image.stat, self.image.readlink, self.image.lookup, self.image.listdir):
+            with self.assertRaises(TypeError):
+                call("/message", romtool.Budget(9))
+        self.assertEqual(self.image.open("/message", "rb").read(), b"hello\n")
+        for call in (self.image.open, next(self.image.scandir("/etc")).open):
+            with self.assertRaisesRegex(ValueError, "only read"):
+                call("/message", "w") if call == self.image.open else call("r")
+
+    def test_entries(self):
+        image = self.image
+        self.assertEqual(image.lookup("/message"), image.lookup("/etc/motd"))
+        motd, empty = image.scandir("/etc")
+        etc, message, null = image.scandir()
+        paths = [it for it in image.root.rglob("*") if it.is_file(follow_symlinks=False)]
+        with mock.patch.object(romtool._names.Names, "lookup", side_effect=AssertionError("a look-up")):
+            self.assertEqual((motd.read(), motd.open().read(), motd.map()), (b"hello\n",) * 3)
+            self.assertEqual((motd.runs(), motd.offset(), empty.offset()), ([romtool.Run(motd.offset(), 6, 0)], motd.offset(), None))
+            self.assertEqual((image.read(motd), image.stat(motd), image.listdir(etc)), (b"hello\n", motd.stat(), ["motd", "empty"]))
+            self.assertEqual((message.readlink(), message.stat(follow_symlinks=False).size), ("etc/motd", 8))
+            with self.assertRaisesRegex(AssertionError, "a look-up"):
+                message.read()
+            self.assertEqual([(str(it), it.read_bytes()) for it in paths], [("/etc/motd", b"hello\n"), ("/etc/empty", b"")])
+        self.assertEqual((message.read(), message.map(), message.offset()), (b"hello\n", b"hello\n", motd.offset()))
+        for call, error in ((etc.read, IsADirectoryError), (null.open, OSError)):
+            with self.assertRaises(error) as caught:
+                call()
+            self.assertIn(caught.exception.filename, ("/etc", "/null"))
+        other = romtool.Image(BYTES[:])
+        self.assertEqual(other.read(motd), b"hello\n")  # an entry of another image is a path
+
+    def test_numbers_as_in_os(self):
+        image = self.image
+        stat, null = image.stat("/etc/motd"), image.stat("null")
+        self.assertEqual((stat.st_size, stat.st_ino, stat.st_nlink, stat.st_mode), (6, stat.number, 1, 0o100000 | stat.mode))
+        self.assertEqual((null.st_rdev, null.st_size, image.stat("/").st_nlink), (os.makedev(1, 3), 0, 1))
+        self.assertEqual((stat.st_uid, stat.st_gid), (stat.uid, stat.gid))
+        manifest = b"dir / 0755 0 0\ndir /d 0755 0 0\nfile /a 0644 0 0 4 %s\nhard /d/b /a\nhard /d/c /a\n" % os.fsencode(__file__)
+        with tempfile.TemporaryDirectory() as top:
+            romtool.build(manifest, top + "/image", "romfs")
+            image = romtool.Image(top + "/image")
+        names = [image.stat(it) for it in ("/a", "/d/b", "/d/c")]
+        self.assertEqual([(it.st_nlink, it.st_uid, it.st_gid) for it in names], [(3, 0, 0)] * 3)
+        self.assertEqual(names[0].st_size, os.path.getsize(__file__))
+        for other in (copy.deepcopy(stat), pickle.loads(pickle.dumps(stat)), stat._replace(size=6)):
+            self.assertEqual((other, other.st_size), (stat, 6))
+            with self.assertRaisesRegex(ValueError, "of a copy"):
+                self.assertTrue(other.st_nlink)
+        image.close()
+        with self.assertRaisesRegex(ValueError, "closed"):
+            self.assertTrue(names[0].st_nlink)
+
+    def test_many_look_ups_in_a_directory(self):
+        lines = ["file /d/n%d 0644 0 0 4 %s" % (it, __file__) for it in range(200)]
+        lines += ["slink /d/l%d 0777 0 0 n%d" % (it, it) for it in range(200)] + ["slink /d/loop 0777 0 0 loop", "slink /up 0777 0 0 d"]
+        with tempfile.TemporaryDirectory() as top:
+            romtool.build("\n".join(["dir / 0755 0 0", "dir /d 0755 0 0", *lines, ""]).encode(), top + "/image", "cramfs")
+            image, again = romtool.Image(top + "/image"), romtool.Image(top + "/image")
+        for top in ("/d/", "/up/", "d/"):
+            for name in (*("n%d" % it for it in range(200)), *("l%d" % it for it in range(200)), ".", "..", ""):
+                for follow in (True, False):
+                    again._names = romtool._names.Names(again._open())  # which has not seen any look-up
+                    wanted = again.lookup(top + name, follow_symlinks=follow)
+                    self.assertEqual(image.lookup(top + name, follow_symlinks=follow), wanted)
+            for name, error in (("none", errno.ENOENT), ("loop", errno.ELOOP), ("n1/x", errno.ENOTDIR), ("x" * 256, errno.ENAMETOOLONG)):
+                with self.assertRaises(OSError) as caught:
+                    image.lookup(top + name)
+                self.assertEqual((caught.exception.errno, caught.exception.filename), (error, top + name))
+            with self.assertRaises(romtool.BudgetError):
+                image.lookup(top + "n1", budget=romtool.Budget(1))
+        for it in range(100):
+            with self.assertRaises(NotADirectoryError):
+                image.lookup("/d/n1/%d" % it)
+        self.assertLessEqual(len(image._names._directories), romtool._names.DIRECTORIES)
 
     def test_budgets(self):
         image, budget = self.image, romtool.Budget(2)
@@ -157,9 +276,14 @@ class Images(unittest.TestCase):
         with tempfile.TemporaryDirectory() as top:
             self.assertEqual(romtool.build(MANIFEST, top + "/image", "romfs"), os.path.getsize(top + "/image"))
             image = romtool.Image(top + "/image")
+            romtool.build(b"dir / 0755 0 0\nslink /long 0777 0 0 %s\n" % LONG, top + "/image", "romfs")
+            long = romtool.Image(top + "/image")
+        self.assertEqual((list(long.walk()), list(long.root.glob("*/*"))), ([("/", [], ["long"])], []))
+        with self.assertRaisesRegex(OSError, "too long"):
+            long.exists("/long")
         wanted = [("/", ["d"], ["loop", "none"]), ("/d", ["up"], [])]
         self.assertEqual(list(image.walk()), wanted)
-        followed = list(image.walk(followlinks=True))
+        followed = list(image.walk(follow_symlinks=True))
         self.assertEqual(followed[2], ("/d/up", ["d"], ["loop", "none"]))
         self.assertEqual(len(followed), 82)  # a path of more than 40 links leads nowhere
         entries = {it.name: it for it in image.scandir()}
@@ -223,6 +347,26 @@ class Images(unittest.TestCase):
         with self.assertRaises(FileNotFoundError):
             (root / "none").read_bytes()
         self.assertEqual(self.image.read(motd), b"hello\n")
+
+    def test_paths(self):
+        root, other = self.image.root, romtool.Image(BYTES)
+        motd = root / "etc" / "motd"
+        self.assertEqual(motd.relative_to("etc"), pathlib.PurePosixPath("motd"))
+        self.assertEqual((motd.is_relative_to(root), motd.is_relative_to("/none")), (True, False))
+        with self.assertRaises(ValueError):
+            motd.relative_to("/none")
+        message = root / "message"
+        self.assertEqual((message.parent / message.readlink(), message.lstat().size, message.stat().size), (motd, 8, 6))
+        self.assertTrue(root < motd <= motd < message and not motd > message)
+        self.assertNotEqual(motd, other.path("etc/motd"))
+        with self.assertRaises(TypeError):
+            self.assertTrue(motd < other.path("etc/motd"))
+        for pattern, error in (("", ValueError), ("/etc", NotImplementedError), (".", ValueError)):
+            with self.assertRaises(error):
+                root.glob(pattern)
+        with self.assertRaises(NotImplementedError):
+            root.rglob("/x")
+        self.assertEqual(sorted(map(str, root.glob("**"))), ["/", "/etc", "/etc/empty", "/etc/motd", "/message", "/null"])
 
     def test_what_outlives_the_image(self):
         with tempfile.TemporaryDirectory() as top:

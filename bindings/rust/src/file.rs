@@ -235,6 +235,16 @@ impl<'a> Dir<'a> {
         }
     }
 
+    /// Returns the number of the directory and the position, for [`Dir::again`].
+    pub(crate) fn kept(&self) -> (u32, u64) {
+        (self.open.node, self.open.position)
+    }
+
+    /// Returns the directory of the same image with this number and position, which [`Dir::kept`] returned.
+    pub(crate) fn again(of: Node<'a>, (node, position): (u32, u64)) -> Dir<'a> {
+        Dir { open: Open { image: of.image, node, position } }
+    }
+
     /// Returns the kind and numbers of the directory.
     ///
     /// # Panics

@@ -3,7 +3,9 @@
 use crate::error::{CheckError, Error, Fault, WrongNumbers};
 use crate::file::{Dir, File};
 use crate::node::Node;
+use crate::path::PathBytes;
 use crate::raw;
+use crate::walk::Walk;
 use core::fmt;
 
 /// The format of an image.
@@ -128,6 +130,16 @@ impl<'a> Image<'a> {
         }
     }
 
+    /// Makes an image of bytes, and of the numbers that a check of the same bytes returned.
+    pub(crate) fn with(bytes: &'a [u8], numbers: raw::Numbers) -> Image<'a> {
+        Image { bytes, numbers }
+    }
+
+    /// Returns the numbers, for [`Image::with`].
+    pub(crate) fn kept(&self) -> &raw::Numbers {
+        &self.numbers
+    }
+
     /// Returns the description of the image: 48 bytes, from which [`Image::from_numbers`] makes it again over the same
     /// bytes. `romtool.h` says what they are.
     pub fn numbers(&self) -> [u8; 48] {
@@ -211,8 +223,8 @@ impl<'a> Image<'a> {
     /// # Errors
     ///
     /// The path leads nowhere.
-    pub fn lookup(&self, path: impl AsRef<[u8]>) -> Result<Node<'a>, Error> {
-        let path = path.as_ref();
+    pub fn lookup(&self, path: impl PathBytes) -> Result<Node<'a>, Error> {
+        let path = path.path_bytes();
         Node::found(*self, unsafe { raw::romtool_lookup(&self.raw(), path.as_ptr(), path.len() as u64, true) })
     }
 
@@ -223,10 +235,33 @@ impl<'a> Image<'a> {
     ///
     /// More names are compared than the budget has ([`Error::OverBudget`]), of which nothing is left then; or the path leads
     /// nowhere.
-    pub fn lookup_within(&self, path: impl AsRef<[u8]>, budget: &mut u64) -> Result<Node<'a>, Error> {
-        let (path, image) = (path.as_ref(), self.raw());
+    pub fn lookup_within(&self, path: impl PathBytes, budget: &mut u64) -> Result<Node<'a>, Error> {
+        let (path, image) = (path.path_bytes(), self.raw());
         Node::found(*self, unsafe {
             raw::romtool_lookup_within(&image, path.as_ptr(), path.len() as u64, true, budget)
+        })
+    }
+
+    /// Returns the same as [`lookup`](Image::lookup), but a symbolic link as the last component is not followed.
+    ///
+    /// # Errors
+    ///
+    /// The path leads nowhere.
+    pub fn symlink_lookup(&self, path: impl PathBytes) -> Result<Node<'a>, Error> {
+        let path = path.path_bytes();
+        Node::found(*self, unsafe { raw::romtool_lookup(&self.raw(), path.as_ptr(), path.len() as u64, false) })
+    }
+
+    /// Returns the same as [`symlink_lookup`](Image::symlink_lookup), with a budget as [`lookup_within`](Image::lookup_within)
+    /// has it.
+    ///
+    /// # Errors
+    ///
+    /// Those of [`lookup_within`](Image::lookup_within).
+    pub fn symlink_lookup_within(&self, path: impl PathBytes, budget: &mut u64) -> Result<Node<'a>, Error> {
+        let (path, image) = (path.path_bytes(), self.raw());
+        Node::found(*self, unsafe {
+            raw::romtool_lookup_within(&image, path.as_ptr(), path.len() as u64, false, budget)
         })
     }
 
@@ -236,8 +271,8 @@ impl<'a> Image<'a> {
     /// # Errors
     ///
     /// The path leads nowhere.
-    pub fn metadata(&self, path: impl AsRef<[u8]>) -> Result<Metadata, Error> {
-        self.stat(path.as_ref(), true)
+    pub fn metadata(&self, path: impl PathBytes) -> Result<Metadata, Error> {
+        self.stat(path.path_bytes(), true)
     }
 
     /// Returns the same as [`metadata`](Image::metadata), but a symbolic link as the last component is not followed.
@@ -245,8 +280,8 @@ impl<'a> Image<'a> {
     /// # Errors
     ///
     /// The path leads nowhere.
-    pub fn symlink_metadata(&self, path: impl AsRef<[u8]>) -> Result<Metadata, Error> {
-        self.stat(path.as_ref(), false)
+    pub fn symlink_metadata(&self, path: impl PathBytes) -> Result<Metadata, Error> {
+        self.stat(path.path_bytes(), false)
     }
 
     fn stat(&self, path: &[u8], follow: bool) -> Result<Metadata, Error> {
@@ -258,8 +293,8 @@ impl<'a> Image<'a> {
     /// # Errors
     ///
     /// The path leads nowhere, or to no symbolic link ([`Error::Invalid`]).
-    pub fn read_link(&self, path: impl AsRef<[u8]>) -> Result<&'a [u8], Error> {
-        let path = path.as_ref();
+    pub fn read_link(&self, path: impl PathBytes) -> Result<&'a [u8], Error> {
+        let path = path.path_bytes();
         self.place(&unsafe { raw::romtool_readlink(&self.raw(), path.as_ptr(), path.len() as u64) })
     }
 
@@ -268,8 +303,36 @@ impl<'a> Image<'a> {
     /// # Errors
     ///
     /// The path leads nowhere, to a directory ([`Error::IsADirectory`]) or to a special file.
-    pub fn open(&self, path: impl AsRef<[u8]>) -> Result<File<'a>, Error> {
-        File::open(*self, path.as_ref())
+    pub fn open(&self, path: impl PathBytes) -> Result<File<'a>, Error> {
+        File::open(*self, path.path_bytes())
+    }
+
+    /// Opens the regular file to which a path leads, if its look-up compares no more names than the budget, as
+    /// [`lookup_within`](Image::lookup_within) says.
+    ///
+    /// # Errors
+    ///
+    /// Those of [`open`](Image::open), or more names are compared ([`Error::OverBudget`]).
+    pub fn open_within(&self, path: impl PathBytes, budget: &mut u64) -> Result<File<'a>, Error> {
+        self.lookup_within(path, budget)?.open()
+    }
+
+    /// Opens the directory to which a path leads, with a budget in the same way.
+    ///
+    /// # Errors
+    ///
+    /// Those of [`read_dir`](Image::read_dir), or more names are compared ([`Error::OverBudget`]).
+    pub fn read_dir_within(&self, path: impl PathBytes, budget: &mut u64) -> Result<Dir<'a>, Error> {
+        self.lookup_within(path, budget)?.read_dir()
+    }
+
+    /// Walks over all entries of the image except the root.
+    ///
+    /// # Panics
+    ///
+    /// Never: the root is a directory.
+    pub fn walk(&self) -> Walk<'a> {
+        self.root().walk().expect("the root is a directory")
     }
 
     /// Opens the directory to which a path leads. The entries `.` and `..` are left out.
@@ -277,7 +340,7 @@ impl<'a> Image<'a> {
     /// # Errors
     ///
     /// The path leads nowhere, or to no directory ([`Error::NotADirectory`]).
-    pub fn read_dir(&self, path: impl AsRef<[u8]>) -> Result<Dir<'a>, Error> {
-        Dir::open(*self, path.as_ref())
+    pub fn read_dir(&self, path: impl PathBytes) -> Result<Dir<'a>, Error> {
+        Dir::open(*self, path.path_bytes())
     }
 }

@@ -3,7 +3,7 @@
 #![warn(missing_docs)]
 #![deny(unsafe_op_in_unsafe_fn)]
 
-#[cfg(all(feature = "alloc", not(heap_of_archive)))]
+#[cfg(feature = "alloc")]
 extern crate alloc;
 #[cfg(feature = "std")]
 extern crate std;
@@ -14,9 +14,15 @@ mod file;
 mod heap;
 mod image;
 mod node;
+mod owned;
+mod path;
 mod raw;
+mod walk;
 
 pub use error::{CheckError, Error, Fault, WrongNumbers};
 pub use file::{Dir, Entry, File};
 pub use image::{Format, Image, Kind, Metadata};
 pub use node::Node;
+pub use owned::{OwnedImage, StableBytes};
+pub use path::PathBytes;
+pub use walk::{Found, Walk};

@@ -3,7 +3,9 @@
 use crate::error::Error;
 use crate::file::{Dir, File, Open};
 use crate::image::{Image, Metadata};
+use crate::path::PathBytes;
 use crate::raw;
+use crate::walk::Walk;
 use core::fmt;
 
 /// A node of an image: what a path or an entry of a directory leads to. Its calls make no look-up, so their time does not
@@ -79,14 +81,23 @@ impl<'a> Node<'a> {
         Dir::of(Open::at_node(*self)?)
     }
 
+    /// Walks over all entries below this directory.
+    ///
+    /// # Errors
+    ///
+    /// It is not a directory ([`Error::NotADirectory`]), or neither that nor a regular file.
+    pub fn walk(&self) -> Result<Walk<'a>, Error> {
+        Walk::of(*self)
+    }
+
     /// Returns the node of the entry of this name in this directory. No entry is named `.` or `..`, and no link is followed.
     /// The time is linear in the names of the directory.
     ///
     /// # Errors
     ///
     /// It is not a directory ([`Error::NotADirectory`]), or has no such entry ([`Error::NotFound`]).
-    pub fn lookup(&self, name: impl AsRef<[u8]>) -> Result<Node<'a>, Error> {
-        let name = name.as_ref();
+    pub fn lookup(&self, name: impl PathBytes) -> Result<Node<'a>, Error> {
+        let name = name.path_bytes();
         Node::found(self.image, unsafe {
             raw::romtool_lookup_at(&self.image.raw(), self.number, name.as_ptr(), name.len() as u64)
         })

@@ -55,5 +55,6 @@ fn a_file_by_its_nodes() {
     assert_eq!((&four, motd.position()), (b"o\n\0\0", 6));
     assert_eq!(etc.lookup("none"), Err(Error::NotFound));
     assert_eq!(image.root().read_dir().unwrap().count(), 3);
+    assert_eq!(image.walk().map(|it| (it.entry().name().len(), it.depth())).max(), Some((7, 1)));
     assert!(Image::check(&SMALL[1..]).is_err());
 }

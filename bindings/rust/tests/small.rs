@@ -1,7 +1,12 @@
 //! The crate on one small image: what each call answers, and each error.
 
-use romtool::{CheckError, Error, Fault, Format, Image, Kind, Node, WrongNumbers};
+use romtool::{CheckError, Error, Fault, Format, Image, Kind, Node, OwnedImage, StableBytes, WrongNumbers};
+use std::borrow::Cow;
+use std::ffi::{OsStr, OsString};
 use std::io::{BufRead, ErrorKind, Read, Seek, SeekFrom};
+use std::path::{Path, PathBuf};
+use std::rc::Rc;
+use std::sync::Arc;
 
 const SMALL: &[u8] = include_bytes!("small.romfs");
 
@@ -238,4 +243,105 @@ fn errors_have_numbers_and_words() {
         assert!(found.len() == 1 && !found[0].to_string().is_empty());
     }
     assert_eq!(std::io::Error::from(Error::NotFound).kind(), std::io::ErrorKind::NotFound);
+}
+
+/// Reads a file of an image that was moved to another thread, if it may be.
+fn read_elsewhere<B: StableBytes + Send + 'static>(bytes: B) {
+    let image = OwnedImage::check(bytes).expect("a good image");
+    let held = std::thread::spawn(move || image.image().open("/message").unwrap().as_bytes().unwrap().to_vec());
+    assert_eq!(held.join().unwrap(), b"hello\n");
+}
+
+#[test]
+fn images_that_own_their_bytes() {
+    read_elsewhere(SMALL.to_vec());
+    read_elsewhere(SMALL.to_vec().into_boxed_slice());
+    read_elsewhere(Arc::<[u8]>::from(SMALL));
+    read_elsewhere(SMALL);
+    read_elsewhere(*include_bytes!("small.romfs"));
+    let image = OwnedImage::check(Rc::<[u8]>::from(SMALL)).unwrap();
+    assert_eq!((image.image().format(), image.image().size()), (Format::Romfs, SMALL.len() as u32));
+    let (numbers, copy) = (image.image().numbers(), image.clone());
+    assert_eq!(&*image.into_inner(), SMALL);
+    assert_eq!(format!("{copy:?}"), format!("OwnedImage({:?})", copy.image()));
+    let fault = OwnedImage::check(SMALL[..100].to_vec()).unwrap_err();
+    assert_eq!(fault, Image::check(&SMALL[..100]).unwrap_err());
+    let again = unsafe { OwnedImage::from_numbers(SMALL.to_vec(), &numbers) }.unwrap();
+    assert_eq!(again.image().open("/etc/motd").unwrap().as_bytes(), Ok(b"hello\n".as_slice()));
+    assert_eq!(unsafe { OwnedImage::from_numbers(SMALL[1..].to_vec(), &numbers) }.unwrap_err(), WrongNumbers);
+    // an owner that this crate does not know, as that of a mapped file is
+    let mapped = unsafe { OwnedImage::check_mapped(String::from_utf8_lossy(b"-rom").into_owned()) };
+    assert!(matches!(mapped, Err(CheckError::Fault(_))));
+    let image = unsafe { OwnedImage::check_mapped(Cow::Borrowed(SMALL)) }.unwrap();
+    assert_eq!(image.image().root().read_dir().unwrap().count(), 3);
+}
+
+#[test]
+fn links_that_are_not_followed() {
+    let image = image();
+    let link = image.symlink_lookup("/message").unwrap();
+    assert_eq!((link.metadata().kind, link.read_link()), (Kind::Symlink, Ok(b"etc/motd".as_slice())));
+    assert_eq!(image.symlink_lookup("/etc"), image.lookup("/etc"));
+    assert_ne!(image.symlink_lookup("/message"), image.lookup("/message"));
+    let mut budget = 2; // `message` is the second of three names
+    assert_eq!((image.symlink_lookup_within("/message", &mut budget), budget), (Ok(link), 0));
+    assert_eq!(image.symlink_lookup_within("/message", &mut 1), Err(Error::OverBudget));
+}
+
+#[test]
+fn files_within_a_budget() {
+    let image = image();
+    // `/etc` is the first name of the root, and `motd` that of its directory
+    let mut budget = 2;
+    assert_eq!(image.open_within("/etc/motd", &mut budget).unwrap().as_bytes(), Ok(b"hello\n".as_slice()));
+    assert_eq!((budget, image.open_within("/etc", &mut budget).unwrap_err()), (0, Error::OverBudget));
+    assert_eq!(image.read_dir_within("/etc", &mut 1).unwrap().count(), 2);
+    assert_eq!(image.read_dir_within("/etc", &mut 0).unwrap_err(), Error::OverBudget);
+    assert_eq!(image.open_within("/etc", &mut 9).unwrap_err(), Error::IsADirectory);
+}
+
+#[test]
+fn walks() {
+    let image = image();
+    let found: Vec<_> = image.walk().map(|it| (it.path().to_vec(), it.depth(), it.entry().kind())).collect();
+    let wanted = [
+        ("/etc", 1, Kind::Directory),
+        ("/etc/motd", 2, Kind::Regular),
+        ("/etc/empty", 2, Kind::Regular),
+        ("/message", 1, Kind::Symlink),
+        ("/null", 1, Kind::Character),
+    ];
+    assert_eq!(found, wanted.map(|(path, depth, kind)| (path.as_bytes().to_vec(), depth, kind)));
+    for it in image.walk() {
+        assert_eq!(image.symlink_lookup(it.path()), Ok(it.entry().node()));
+        assert_eq!(it.as_path(), Path::new(std::str::from_utf8(it.path()).unwrap()));
+    }
+    let etc = image.lookup("/etc").unwrap();
+    let below: Vec<_> = etc.walk().unwrap().map(|it| it.path().to_vec()).collect();
+    assert_eq!(below, [b"/motd".to_vec(), b"/empty".to_vec()]);
+    assert_eq!(image.lookup("/message").unwrap().walk().unwrap_err(), Error::NotADirectory);
+}
+
+#[test]
+fn paths_of_each_kind() {
+    let (image, wanted) = (image(), image().lookup("/etc/motd"));
+    let (text, path) = (String::from("/etc/motd"), PathBuf::from("/etc/motd"));
+    for found in [
+        image.lookup("/etc/motd"),
+        image.lookup(b"/etc/motd"),
+        image.lookup(*b"/etc/motd"),
+        image.lookup(&b"/etc/motd"[..]),
+        image.lookup(&text),
+        image.lookup(text.clone()),
+        image.lookup(text.clone().into_bytes()),
+        image.lookup(Cow::Borrowed("/etc/motd")),
+        image.lookup(Path::new("/etc/motd")),
+        image.lookup(&path),
+        image.lookup(path.clone()),
+        image.lookup(OsStr::new("/etc/motd")),
+        image.lookup(OsString::from("/etc/motd")),
+        image.lookup("/etc").and_then(|it| it.lookup(Path::new("motd"))),
+    ] {
+        assert_eq!(found, wanted);
+    }
 }

@@ -3,7 +3,7 @@ ghost use Rattle.std.specs.Prelude.{◌≡◌, ℕ, ◌+◌, ◌<◌, ◌≤◌,
 ghost use Rattle.atomic_file.specs.Log.{Event, Create, Sync, Close, Rename, Remove, Logs};
 ghost use Rattle.atomic_file.specs.Log.{LogsLast};
 
-use rom_fields::{ByteWrite, Failed};
+use rom_fields::{Failed, Rewrite};
 
 /// The reason why no file was made.
 #[derive(Clone, Copy, Debug, PartialEq, Eq)]
@@ -38,7 +38,7 @@ pub enum Durability {
 /// here. A name is the number by which the directory knows it.
 pub trait Directory {
     /// A file that was made, and is written to.
-    type Part: ByteWrite + Drop;
+    type Part: Rewrite + Drop;
 
     /// A file that was synchronized. Nothing is written to it any more.
     type Synced: Drop;

@@ -4,7 +4,7 @@ ghost use Rattle.std.specs.Io.KnownBytes.{Appends};
 ghost use Rattle.rom_fields.specs.Failures.{Rose};
 ghost use Rattle.rom_fields.specs.Written.{Output};
 
-use rom_fields::{ByteWrite, Failed, write_whole};
+use rom_fields::{Failed, Rewrite, write_whole};
 
 /// What writes the bytes of a file.
 pub trait Fill {
@@ -25,7 +25,7 @@ pub trait Fill {
     ghost ready: { Self → Type 0 };
 
     /// Writes all of the bytes.
-    fn fill<W: ByteWrite>(&mut self, w: &mut W) -> Result<(), Self::Error>
+    fn fill<W: Rewrite>(&mut self, w: &mut W) -> Result<(), Self::Error>
         requires { ready self.old }
         ensures stays { stays self.old self.new }
         ensures ok { OnOk result (writes self.old self.new (W.output w.old).contents
@@ -49,7 +49,7 @@ impl<'a> Fill for Bytes<'a> {
 
     ghost ready = { λ _. ⊤ };
 
-    fn fill<W: ByteWrite>(&mut self, w: &mut W) -> Result<(), Failed> {
+    fn fill<W: Rewrite>(&mut self, w: &mut W) -> Result<(), Failed> {
         write_whole(w, self.0)
     }
 }

@@ -15,7 +15,7 @@ use Rattle.manifest.specs.Grammar.{manifest_of}
 use Rattle.manifest.specs.Lines.{ManifestLines, sources_of}
 use Rattle.rom_fields.specs.Written.{Output}
 use Rattle.build_commands.specs.Sources.{joined, opened_as}
-use Rattle.command_line.specs.declared.request.Build.{Build}
+use Rattle.build_commands.specs.declared.limits.Wanted.{Wanted}
 use Rattle.formats.specs.Format.{format_of}
 use Rattle.build_commands.specs.Limits.{most_of, padding_of}
 use Rattle.build_commands.specs.declared.limits.Foreseen.{Foreseen}
@@ -35,7 +35,7 @@ opened_count f names directory sources are =
     sym (length-map names f) ∙ ap length are ∙ all_opened directory sources
 
 -- the same image, by logs of which the first is part of the second
-pub image_by : {passed : Type 0} (padding : Padding) (known known' : Option (List (List ℕ)))
+pub image_by : {passed : Option (List ℕ) → Type 0} (padding : Padding) (known known' : Option (List (List ℕ)))
     (was is was' is' : List Answer → Type 0) (p : Planned) (old new : Option (List ℕ)) → known ≡ known'
     → ((log : List Answer) → was' log → was log) → ((log : List Answer) → is log → is' log)
     → IsCheckedImage passed padding known was is p old new → IsCheckedImage passed padding known' was' is' p old new
@@ -125,21 +125,23 @@ pub kept_by_all : {A E : Type 0} (names : Names) (P Q : Option (List ℕ) → Ty
 kept_by_all names P Q more IsBegun log (Ok a) h = tt
 kept_by_all names P Q more IsBegun log (Err e) h = λ old begun. kept_of names P Q more old log (h old begun)
 
-pub made_somehow : {A E : Type 0} {P Q : Option (List ℕ) → Type 0} → ((t : Option (List ℕ)) → P t → Q t)
-    → (r : Result A E) → IfOk r (λ a. (t : Option (List ℕ)) × P t) → IfOk r (λ a. (t : Option (List ℕ)) × Q t)
-made_somehow more (Ok a) (t, h) = (t, more t h)
-made_somehow more (Err e) h = tt
+pub made_somehow : {A E : Type 0} (Closed : Option (List ℕ) → Type 0) {P Q : Option (List ℕ) → Type 0}
+    → ((t : Option (List ℕ)) → P t → Q t) → (r : Result A E) → IfOk r (λ a. (t : Option (List ℕ)) × Closed t × P t)
+    → IfOk r (λ a. (t : Option (List ℕ)) × Closed t × Q t)
+made_somehow Closed more (Ok a) (t, closed, h) = (t, closed, more t h)
+made_somehow Closed more (Err e) h = tt
 
 -- the image of files that were read, by the logs of the opener before, after, and at the end
-pub made_by : {passed : Type 0} {padding : Padding} (asked : Build) (held : Option (List ℕ → List ℕ))
+pub made_by : {passed : Option (List ℕ) → Type 0} {padding : Padding} (wanted : Wanted)
+    (held : Option (List ℕ → List ℕ))
     {ns ns' : List (List ℕ)} {known : Option (List (List ℕ))} {was is : List Answer → Type 0}
     (first last end : List Told → Type 0)
-    {p : Planned} {old : Option (List ℕ)} → padding ≡ padding_of asked p.image_len → known ≡ contents_of_all held ns
+    {p : Planned} {old : Option (List ℕ)} → padding ≡ padding_of wanted p.image_len → known ≡ contents_of_all held ns
     → ((log : List Answer) → was log ↔ IsLogOf ns first log) → ns' ≡ ns
     → ((log : List Answer) → is log ↔ IsLogOf ns' last log) → ((log : List Told) → last log → end log)
     → (new : Option (List ℕ)) → IsCheckedImage passed padding known was is p old new
-    → IsMade passed asked held first end ns p old new
-made_by {passed} {padding} asked held {ns} {ns'} {known} {was} {is} first last end {p} {old} padded same before names
+    → IsMade passed wanted held first end ns p old new
+made_by {passed} {padding} wanted held {ns} {ns'} {known} {was} {is} first last end {p} {old} padded same before names
     after ends new image =
     subst (λ pad. IsCheckedImage passed pad (contents_of_all held ns) (IsLogOf ns first) (IsLogOf ns end) p old new)
     padded
@@ -150,19 +152,19 @@ made_by {passed} {padding} asked held {ns} {ns'} {known} {was} {is} first last e
 
 -- ---- a build that is done
 
-pub built_of : {A E U : Type 0} (asked : Build) (text : List ℕ) (foreseen : Foreseen)
+pub built_of : {A E U : Type 0} (wanted : Wanted) (text : List ℕ) (foreseen : Foreseen)
     (IsBegun : List Event → Type 0) (IsFile : List Event → List (List ℕ) → Type 0) (p : Planned) (out out' : Output)
     (m : ManifestLines) (ns : List (List ℕ)) → manifest_of text ≡ Ok m
-    → ns ≡ opened_as (option_map (λ d. d.now) asked.sources) (sources_of m.lines) → IsPlanOf p.format m p.sizes p
-    → p.format ≡ format_of asked.format → IsWithin (most_of asked) p.image_len
-    → (asked.strict ≡ true → foreseen.misread ≡ None) → (asked.xip ≡ true → foreseen.programs ≢ None)
+    → ns ≡ opened_as (option_map (λ d. d.now) wanted.sources) (sources_of m.lines) → IsPlanOf p.format m p.sizes p
+    → p.format ≡ format_of wanted.format → IsWithin (most_of wanted) p.image_len
+    → (wanted.strict ≡ true → foreseen.misread ≡ None) → (wanted.xip ≡ true → foreseen.programs ≢ None)
     → (given : Result A E) (r : Result A U)
     → IfOk given (λ a. (old : List Event) → IsBegun old → IsFile old ns)
     → IfOk r (λ a. (given ≡ Ok a) × IsReported p.image_len out out')
-    → IfOk r (λ a. (old : List Event) → IsBegun old → IsBuilt asked text foreseen (IsFile old) p out out')
-built_of asked text foreseen IsBegun IsFile p out out' m ns says named planned format within strict in_place given
+    → IfOk r (λ a. (old : List Event) → IsBegun old → IsBuilt wanted text foreseen (IsFile old) p out out')
+built_of wanted text foreseen IsBegun IsFile p out out' m ns says named planned format within strict in_place given
     (Err e) file told = tt
-built_of asked text foreseen IsBegun IsFile p out out' m ns says named planned format within strict in_place given
+built_of wanted text foreseen IsBegun IsFile p out out' m ns says named planned format within strict in_place given
     (Ok a) file (is, reported) =
     λ old begun. record {
       lines = m;

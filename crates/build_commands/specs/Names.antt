@@ -4,7 +4,7 @@
 use Rattle.std.specs.Prelude.{ℕ, ◌+◌, ◌==◌, nat_le, nat_lt, Bool, false, not, ◌&&◌, ◌||◌}
 use Rattle.std.specs.Prelude.{List, [], ◌∷◌, ◌++◌, codes, drop, length, replicate, get_or, ◌-◌}
 use Rattle.std.specs.Prelude.{if◌then◌else◌}
-use Rattle.std.specs.List.{list_all}
+use Rattle.std.specs.List.{list_all, list_any}
 use Rattle.std.specs.Str.{bytes_eq}
 
 -- a byte is one of these
@@ -60,10 +60,19 @@ is_word_of_make name =
     || (bytes_eq name (codes "override") || (bytes_eq name (codes "private")
     || (bytes_eq name (codes "undefine") || bytes_eq name (codes "unexport"))))))
 
+-- a name has this byte
+abbrev pub has : ℕ → List ℕ → Bool
+has b name = list_any (λ c. c == b) name
+
+-- a name with a backslash, a `#` and a wildcard, which make reads with a backslash too many
+abbrev pub is_mixed : List ℕ → Bool
+is_mixed name = has 92 name && (has 35 name && (has 42 name || (has 63 name || has 91 name)))
+
 -- A name that can be in a rule: it is not empty, begins with no tilde, ends with neither a space
--- nor a backslash, is no word of make, and has only permitted bytes.
+-- nor a backslash, is no word of make, does not mix what make confuses, and has only permitted
+-- bytes.
 abbrev pub is_sayable : List ℕ → Bool
 is_sayable name =
     not (get_or name 0 126 == 126)
     && (not (is_in (codes " \\") (get_or name (length name - 1) 32))
-    && (not (is_word_of_make name) && list_all is_permitted name))
+    && (not (is_word_of_make name) && (not (is_mixed name) && list_all is_permitted name)))

@@ -1,13 +1,14 @@
 //! The command `build`: an image takes the place of a file, and this is reported.
 ghost use Rattle.std.specs.Prelude.{◌≡◌, ◌≢◌, ◌≤◌, ◌%◌, List, Ok, None, length, map, option_map};
-ghost use Rattle.std.specs.Prelude.{ℕ, Option, IfOk, IfErr, OnErr, true};
+ghost use Rattle.std.specs.Prelude.{ℕ, Option, IfOk, IfErr, OnOk, OnErr, true};
 ghost use Rattle.atomic_file.specs.Log.{Event, Throughout};
 ghost use Rattle.atomic_file.specs.Moments.{IsNoPart, IsBegun, IsOldOrNew, IsReplaced, IsDurable};
 ghost use Rattle.atomic_file.specs.Moments.{IsKept};
 ghost use Rattle.build_commands.specs.Built.{IsBuilt, IsMade, IsUnbuilt, IsReported, IsWithin};
-ghost use Rattle.build_commands.specs.Built.{IsOf, IsOutputAfter};
+ghost use Rattle.build_commands.specs.Built.{IsFateAfter, IsOf, IsOutputAfter};
 ghost use Rattle.build_commands.specs.Limits.{most_of};
 ghost use Rattle.build_commands.specs.Sources.{opened_as};
+ghost use Rattle.build_commands.specs.declared.fate.Fate.TheVariants.{Open, Kept};
 ghost use Rattle.formats.specs.Format.{format_of};
 ghost use Rattle.image_build.specs.Images.{IsCheckedImage};
 ghost use Rattle.manifest.specs.Grammar.{manifest_of};
@@ -15,9 +16,9 @@ ghost use Rattle.manifest.specs.Lines.{sources_of};
 ghost use Rattle.plan_types.specs.Plans.{IsPlanOf};
 
 use crate::building::print_built;
-use crate::limits::{Foreseen, padding_after};
-use atomic_file::{Begun, Directory, Durability, Fill, Names, Unfinished};
-use command_line::Build;
+use crate::companion::Companion;
+use crate::limits::{Foreseen, Wanted, padding_after};
+use atomic_file::{Begun, Directory, Durability, Names, Unfinished};
 use file_sources::{FileSources, Opener};
 use image_build::{LastCheck, PlanImage, Unwritten, put};
 use image_stream::Sources;
@@ -30,7 +31,7 @@ use std::io;
 /// as it is asked for: it has the format, is not too long, and passed what may refuse it.
 #[derive(Drop)]
 pub struct Job<'a, O: Opener> {
-    pub asked: Build<'a>,
+    pub wanted: Wanted<'a>,
     /// The text of the manifest, and what it says.
     pub text: &'a [u8],
     pub manifest: &'a Manifest,
@@ -41,38 +42,20 @@ pub struct Job<'a, O: Opener> {
     pub plan: &'a Plan,
     pub foreseen: Foreseen,
     ghost says: { manifest_of text.now ≡ Ok manifest.now },
-    ghost named: { map O.spelled names.now ≡ opened_as (option_map (λ d. d.now) asked.sources)
+    ghost named: { map O.spelled names.now ≡ opened_as (option_map (λ d. d.now) wanted.sources)
         (sources_of manifest.now.lines) },
     ghost planned: { IsPlanOf plan.now.format manifest.now plan.now.sizes plan.now },
     ghost count: { length plan.now.sizes ≡ length (sources_of manifest.now.lines) },
-    ghost format: { plan.now.format ≡ format_of asked.format },
-    ghost within: { IsWithin (most_of asked) plan.now.image_len },
-    ghost strict: { asked.strict ≡ true → foreseen.misread ≡ None },
-    ghost in_place: { asked.xip ≡ true → foreseen.programs ≢ None },
+    ghost format: { plan.now.format ≡ format_of wanted.format },
+    ghost within: { IsWithin (most_of wanted) plan.now.image_len },
+    ghost strict: { wanted.strict ≡ true → foreseen.misread ≡ None },
+    ghost in_place: { wanted.xip ≡ true → foreseen.programs ≢ None },
 }
 
-/// What is written beside an image, for example a rule for make.
-pub trait Companion: Drop {
-    /// The reason why it was not kept.
-    type Error: Drop;
-
-    /// Keeps it, after the image got its name.
-    ///
-    /// # Errors
-    ///
-    /// Those of the companion. The build is not reported as done then.
-    fn keep(&mut self) -> Result<(), Self::Error>;
-
-    /// Gives it up, since the image was not written.
-    fn give_up(&mut self);
-}
-
-/// What a build uses: what opens the sources, the check after all is written, and what is kept
-/// beside the image.
-pub struct Tools<O: Opener, K: LastCheck, C: Companion> {
+/// What a build uses: what opens the sources, and the check after all is written.
+pub struct Tools<O: Opener, K: LastCheck> {
     pub opener: O,
     pub last: K,
-    pub companion: C,
 }
 
 /// The reason why a build is not done.
@@ -94,12 +77,17 @@ pub trait Closer {
     /// The reason why it could not be closed.
     type Error: Drop;
 
+    // A file with these bytes, if they are known, was synchronized, if that can be done, and
+    // closed, and neither failed.
+    ghost closed: { Self → Option (List ℕ) → Type 0 };
+
     /// Synchronizes the file, if that can be done, and closes it.
     ///
     /// # Errors
     ///
     /// Those of the system.
-    fn close(&mut self, file: Self::File) -> Result<(), Self::Error>;
+    fn close(&mut self, file: Self::File) -> Result<(), Self::Error>
+        ensures { OnOk result (closed self.new (Self.File.output file).contents) };
 }
 
 /// The reason why an image was not written over a file.
@@ -124,11 +112,14 @@ pub struct Ended<O, K, R> {
 fn report<C: Companion, A: Drop, E: Drop, W: ByteWrite>(
     plan: &Plan,
     made: Result<A, E>,
-    mut companion: C,
+    companion: &mut C,
     out: &mut W,
 ) -> Result<A, Unbuilt<E, C::Error>>
+    requires { C.fate companion.old ≡ Open }
     ensures ok { IfOk result (λ a. (made ≡ Ok a) × IsReported plan.now.image_len (W.output out.old)
         (W.output out.new)) }
+    ensures kept { OnOk result (C.fate companion.new ≡ Kept) }
+    ensures unkept { IfErr result (IsFateAfter (C.fate companion.new)) }
     ensures err { IfErr result (IsOf made) }
     ensures output { IfErr result (IsOutputAfter plan.now.image_len (W.output out.old)
         (W.output out.new)) }
@@ -165,26 +156,26 @@ fn replaced_by<D: Directory, O: Opener, K: LastCheck>(
     requires buffer { 4096 ≤ length buffer.old }
     requires words { length buffer.old % 4 ≡ 0 }
     ensures any_moment { (old : List Event) → IsBegun names begun.name old (D.log directory.old)
-        → Throughout (IsOldOrNew names (IsMade (K.passed result.last) job.now.asked
+        → Throughout (IsOldOrNew names (IsMade (K.passed result.last) job.now.wanted
         (O.contents opener) (O.IsLog opener) (O.IsLog result.opener)
         (map O.spelled job.now.names.now) job.now.plan.now D.fresh) old) (D.log directory.old)
         (D.log directory.new) }
     ensures ok { IfOk result.result (λ d. (old : List Event)
         → IsBegun names begun.name old (D.log directory.old)
-        → IsReplaced names (IsMade (K.passed result.last) job.now.asked (O.contents opener)
+        → IsReplaced names (IsMade (K.passed result.last) job.now.wanted (O.contents opener)
         (O.IsLog opener) (O.IsLog result.opener) (map O.spelled job.now.names.now)
         job.now.plan.now D.fresh) old (D.log directory.new)) }
     ensures durable { IfOk result.result (λ d. IsDurable d (D.log directory.new)) }
     ensures err { OnErr result.result ((old : List Event)
         → IsBegun names begun.name old (D.log directory.old)
-        → IsKept names (IsMade (K.passed result.last) job.now.asked (O.contents opener)
+        → IsKept names (IsMade (K.passed result.last) job.now.wanted (O.contents opener)
         (O.IsLog opener) (O.IsLog result.opener) (map O.spelled job.now.names.now)
         job.now.plan.now D.fresh) old (D.log directory.new)) }
 {
     let mut image = PlanImage {
         plan: job.plan,
         sources: FileSources::new(opener, job.names, job.states),
-        padding: padding_after(&job.asked, job.plan),
+        padding: padding_after(&job.wanted, job.plan),
         last,
         buffer,
     };
@@ -210,20 +201,22 @@ fn replaced_by<D: Directory, O: Opener, K: LastCheck>(
 /// whose length is a multiple of 4, and then writes `ok LENGTH`.
 ///
 /// `Ok`: the file is the image of the manifest's text, whole, with the contents that the opener's
-/// reads told of the manifest's sources, and exactly the line was written. At each moment the file
-/// is what it was or this image, and a crash leaves it so.
+/// reads told of the manifest's sources, the companion was kept, and exactly the line was written.
+/// At each moment the file is what it was or this image, and a crash leaves it so.
 ///
 /// # Errors
 ///
 /// `NotMade`: the file is what it was, except if only the synchronization of the directory was
-/// refused, and nothing was written to `out`. `NotKept`: the file is the image, and nothing was
-/// written to `out`. `NotReported`: the file is the image, and a prefix of the line was written.
+/// refused, the companion was given up, and nothing was written to `out`. `NotKept`: the file is
+/// the image, the companion was not kept, and nothing was written to `out`. `NotReported`: the file
+/// is the image, the companion was kept, and a prefix of the line was written.
 pub fn build_file<D: Directory, O: Opener, K: LastCheck, C: Companion, W: ByteWrite>(
     directory: &mut D,
     names: Names,
     begun: Begun<D::Part>,
     job: &Job<'_, O>,
-    tools: Tools<O, K, C>,
+    tools: Tools<O, K>,
+    companion: &mut C,
     buffer: &mut [u8],
     out: &mut W,
 ) -> Ended<O, K, Result<Durability, Unbuilt<Unfinished<Unwritten<K::Error>, D::Part>, C::Error>>>
@@ -232,32 +225,31 @@ pub fn build_file<D: Directory, O: Opener, K: LastCheck, C: Companion, W: ByteWr
     requires empty { (D.Part.output begun.part).contents ≡ D.fresh }
     requires buffer { 4096 ≤ length buffer.old }
     requires words { length buffer.old % 4 ≡ 0 }
+    requires companion { C.fate companion.old ≡ Open }
     ensures any_moment { (old : List Event) → IsBegun names begun.name old (D.log directory.old)
-        → Throughout (IsOldOrNew names (IsMade (K.passed result.last) job.now.asked
+        → Throughout (IsOldOrNew names (IsMade (K.passed result.last) job.now.wanted
         (O.contents tools.opener) (O.IsLog tools.opener) (O.IsLog result.opener)
         (map O.spelled job.now.names.now) job.now.plan.now D.fresh) old) (D.log directory.old)
         (D.log directory.new) }
     ensures ok { IfOk result.result (λ d. (old : List Event)
         → IsBegun names begun.name old (D.log directory.old)
-        → IsBuilt job.now.asked job.now.text.now job.now.foreseen
-        (λ opened. IsReplaced names (IsMade (K.passed result.last) job.now.asked
+        → IsBuilt job.now.wanted job.now.text.now job.now.foreseen
+        (λ opened. IsReplaced names (IsMade (K.passed result.last) job.now.wanted
         (O.contents tools.opener) (O.IsLog tools.opener) (O.IsLog result.opener)
         opened job.now.plan.now D.fresh) old (D.log directory.new)) job.now.plan.now
         (W.output out.old) (W.output out.new)) }
     ensures durable { IfOk result.result (λ d. IsDurable d (D.log directory.new)) }
     ensures err { IfErr result.result (λ e. (old : List Event)
         → IsBegun names begun.name old (D.log directory.old)
-        → IsUnbuilt names (IsMade (K.passed result.last) job.now.asked
+        → IsUnbuilt names (IsMade (K.passed result.last) job.now.wanted
         (O.contents tools.opener) (O.IsLog tools.opener) (O.IsLog result.opener)
         (map O.spelled job.now.names.now) job.now.plan.now D.fresh) old (D.log directory.new) e) }
+    ensures kept { OnOk result.result (C.fate companion.new ≡ Kept) }
+    ensures unkept { IfErr result.result (IsFateAfter (C.fate companion.new)) }
     ensures output { IfErr result.result (IsOutputAfter job.now.plan.now.image_len
         (W.output out.old) (W.output out.new)) }
 {
-    let Tools {
-        opener,
-        last,
-        companion,
-    } = tools;
+    let Tools { opener, last } = tools;
     let Ended {
         opener,
         last,
@@ -282,13 +274,13 @@ fn fill_and_close<F: Closer, S: Sources, K: LastCheck>(
     requires files { S.files image.old.sources ≡ length image.old.plan.now.sizes }
     requires buffer { 4096 ≤ length image.old.buffer.now }
     requires words { length image.old.buffer.now % 4 ≡ 0 }
-    ensures ok { IfOk result (λ _. (new : Option (List ℕ)) × IsCheckedImage
-        (K.passed image.new.last) image.old.padding (S.known image.old.sources)
+    ensures ok { IfOk result (λ _. (new : Option (List ℕ)) × F.closed closer.new new
+        × IsCheckedImage (K.passed image.new.last) image.old.padding (S.known image.old.sources)
         (S.IsLog image.old.sources) (S.IsLog image.new.sources) image.old.plan.now
         (F.File.output file).contents new) }
     ensures names { S.names image.new.sources ≡ S.names image.old.sources }
 {
-    if let Err(e) = image.fill(&mut file) {
+    if let Err(e) = image.write_through(&mut file) {
         return Err(Unplaced::NotWritten(e, file));
     }
     match closer.close(file) {
@@ -308,15 +300,15 @@ fn written_over<F: Closer, O: Opener, K: LastCheck>(
 ) -> Ended<O, K, Result<(), Unplaced<Unwritten<K::Error>, F::File, F::Error>>>
     requires buffer { 4096 ≤ length buffer.old }
     requires words { length buffer.old % 4 ≡ 0 }
-    ensures ok { IfOk result.result (λ _. (new : Option (List ℕ))
-        × IsMade (K.passed result.last) job.now.asked (O.contents opener) (O.IsLog opener)
+    ensures ok { IfOk result.result (λ _. (new : Option (List ℕ)) × F.closed closer.new new
+        × IsMade (K.passed result.last) job.now.wanted (O.contents opener) (O.IsLog opener)
         (O.IsLog result.opener) (map O.spelled job.now.names.now) job.now.plan.now
         (F.File.output file).contents new) }
 {
     let mut image = PlanImage {
         plan: job.plan,
         sources: FileSources::new(opener, job.names, job.states),
-        padding: padding_after(&job.asked, job.plan),
+        padding: padding_after(&job.wanted, job.plan),
         last,
         buffer,
     };
@@ -341,38 +333,40 @@ fn written_over<F: Closer, O: Opener, K: LastCheck>(
 /// Builds the image of a manifest over a file that is not regular, for example a device, and then
 /// writes `ok LENGTH`.
 ///
-/// `Ok`: the image of the manifest's text, whole, with the contents that the opener's reads told of
-/// the manifest's sources, was written to the file, which was closed then; and exactly the line was
-/// written.
+/// `Ok`: the file was closed with the image of the manifest's text behind what it had, whole, with
+/// the contents that the opener's reads told of the manifest's sources, and with nothing behind it;
+/// neither its synchronization nor its close failed. Then the companion was kept, and exactly the
+/// line was written.
 ///
 /// # Errors
 ///
-/// `NotMade`: the file may have a part of the image, and nothing was written to `out`. The others
-/// are those of `build_file`.
+/// `NotMade`: the file may have a part of the image, the companion was given up, and nothing was
+/// written to `out`. The others are those of `build_file`.
 pub fn build_over<F: Closer, O: Opener, K: LastCheck, C: Companion, W: ByteWrite>(
     closer: &mut F,
     file: F::File,
     job: &Job<'_, O>,
-    tools: Tools<O, K, C>,
+    tools: Tools<O, K>,
+    companion: &mut C,
     buffer: &mut [u8],
     out: &mut W,
 ) -> Ended<O, K, Result<(), Unbuilt<Unplaced<Unwritten<K::Error>, F::File, F::Error>, C::Error>>>
     requires buffer { 4096 ≤ length buffer.old }
     requires words { length buffer.old % 4 ≡ 0 }
-    ensures ok { IfOk result.result (λ _. IsBuilt job.now.asked job.now.text.now
+    requires companion { C.fate companion.old ≡ Open }
+    ensures ok { IfOk result.result (λ _. IsBuilt job.now.wanted job.now.text.now
         job.now.foreseen
-        (λ opened. (new : Option (List ℕ)) × IsMade (K.passed result.last) job.now.asked
-        (O.contents tools.opener) (O.IsLog tools.opener) (O.IsLog result.opener)
+        (λ opened. (new : Option (List ℕ)) × F.closed closer.new new
+        × IsMade (K.passed result.last) job.now.wanted (O.contents tools.opener)
+        (O.IsLog tools.opener) (O.IsLog result.opener)
         opened job.now.plan.now (F.File.output file).contents new) job.now.plan.now
         (W.output out.old) (W.output out.new)) }
+    ensures kept { OnOk result.result (C.fate companion.new ≡ Kept) }
+    ensures unkept { IfErr result.result (IsFateAfter (C.fate companion.new)) }
     ensures output { IfErr result.result (IsOutputAfter job.now.plan.now.image_len
         (W.output out.old) (W.output out.new)) }
 {
-    let Tools {
-        opener,
-        last,
-        companion,
-    } = tools;
+    let Tools { opener, last } = tools;
     let Ended {
         opener,
         last,

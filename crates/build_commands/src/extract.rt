@@ -1,9 +1,10 @@
 //! The command `extract`: an image is taken apart into a directory, and its manifest is printed.
-ghost use Rattle.std.specs.Prelude.{◌≡◌, [], IfErr, OnErr, OnOk};
+ghost use Rattle.std.specs.Prelude.{◌≡◌, [], List, IfErr, OnErr, OnOk};
 ghost use Rattle.build_commands.specs.Extracts.{IsCutShort, IsDescribedBy, IsExtractAfter};
 ghost use Rattle.image_manifest.specs.Describable.{IsLawfulTree};
 ghost use Rattle.image_manifest.specs.ExtractedMembers.{made_in};
 ghost use Rattle.tree_extract.specs.Extracted.{AreOf, IsExtracted};
+ghost use Rattle.tree_extract.specs.Log.{Event};
 ghost use Rattle.tree_extract.specs.Safe.{AreSafe};
 
 use image_manifest::{FileRules, ImageTree, write_manifest};
@@ -12,20 +13,22 @@ use rom_tree::TreeImage;
 use tree_extract::{Directory, Stopped, extract};
 
 /// The directory itself that an image is extracted into. It exists before, so no member makes it.
-pub trait Filled: Drop {
+pub trait Filled {
     /// The reason why it could not be finished.
     type Error: Drop;
 
-    // The directory was given its mode and owner.
-    ghost finished: { Self → Type 0 };
+    // The directory was given its mode and owner after this was asked of what fills it, newest
+    // first.
+    ghost finished: { Self → List Event → Type 0 };
 
-    /// Gives the directory its mode and owner, after all of its members have theirs.
+    /// Gives the directory its mode and owner, after all of its members were made and have theirs.
     ///
     /// # Errors
     ///
     /// Those of the system.
-    fn finish(self) -> Result<(), Self::Error>
-        ensures { OnOk result (finished self) };
+    fn finish<D: Directory>(&mut self, directory: &D) -> Result<(), Self::Error>
+        requires { IsExtracted D.fresh (D.members directory.now) (D.log directory.now) }
+        ensures { OnOk result (finished self.new (D.log directory.now)) };
 }
 
 /// What a manifest has besides the image: the volume's name, and rules for files.
@@ -67,9 +70,9 @@ fn describe<'b, 'a, T: TreeImage<'a>, W: ByteWrite>(
 /// Extracts what is made of an image into an empty directory, finishes the directory, and prints
 /// the image's manifest if a description is given.
 ///
-/// `Ok`: each member is made whole, with its rights, the directory is finished, and exactly the
-/// manifest was written. In each ending, each call of the directory is safe and makes a member
-/// (`tree_extract::extract`).
+/// `Ok`: each member is made whole, with its rights, the directory is finished after all calls that
+/// made them, and exactly the manifest was written. In each ending, each call of the directory is
+/// safe and makes a member (`tree_extract::extract`).
 ///
 /// # Errors
 ///
@@ -78,7 +81,7 @@ fn describe<'b, 'a, T: TreeImage<'a>, W: ByteWrite>(
 pub fn extract_image<'b, 'a, T: TreeImage<'a>, D: Directory, F: Filled, W: ByteWrite>(
     tree: &ImageTree<'b, 'a, T>,
     directory: &mut D,
-    filled: F,
+    filled: &mut F,
     description: Option<Description<'_>>,
     out: &mut W,
 ) -> Result<(), Unextracted<D::Error, F::Error>>
@@ -91,7 +94,7 @@ pub fn extract_image<'b, 'a, T: TreeImage<'a>, D: Directory, F: Filled, W: ByteW
         tree.now.kinds.now) (D.log directory.new) }
     ensures made { OnOk result (IsExtracted D.fresh (made_in tree.now.giving
         (T.image tree.now.image.now) tree.now.kinds.now) (D.log directory.new)) }
-    ensures finished { OnOk result (F.finished filled) }
+    ensures finished { OnOk result (F.finished filled.new (D.log directory.new)) }
     ensures printed { OnOk result (IsDescribedBy (T.image tree.now.image.now) description.entry
         (W.output out.old) (W.output out.new)) }
     ensures err { IfErr result (IsExtractAfter D.fresh (made_in tree.now.giving
@@ -102,7 +105,7 @@ pub fn extract_image<'b, 'a, T: TreeImage<'a>, D: Directory, F: Filled, W: ByteW
     if let Err(e) = extract(tree, directory) {
         return Err(Unextracted::Stopped(e));
     }
-    if let Err(e) = filled.finish() {
+    if let Err(e) = filled.finish(&*directory) {
         return Err(Unextracted::NotFinished(e));
     }
     match describe(tree, description, out) {

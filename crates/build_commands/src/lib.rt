@@ -26,7 +26,9 @@
 mod building;
 pub mod changes;
 mod command;
+mod companion;
 mod extract;
+mod fate;
 pub mod inventory;
 pub mod laws;
 mod limits;
@@ -44,11 +46,11 @@ mod warnings;
 pub use building::{
     print_bad_manifest, print_built, print_misfit, print_size, print_strict, print_unfit, print_xip,
 };
-pub use command::{
-    Closer, Companion, Ended, Job, Tools, Unbuilt, Unplaced, build_file, build_over,
-};
+pub use command::{Closer, Ended, Job, Tools, Unbuilt, Unplaced, build_file, build_over};
+pub use companion::Companion;
 pub use extract::{Description, Filled, Unextracted, extract_image};
-pub use limits::{Foreseen, Misread, most_bytes};
+pub use fate::Fate;
+pub use limits::{Foreseen, Misread, Partition, Wanted, most_bytes};
 pub use line::{print_line, put_line, write_line};
 pub use part::Part;
 pub use printing::{PrintError, print_walked};

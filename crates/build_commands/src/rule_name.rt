@@ -3,7 +3,7 @@ ghost use Rattle.std.specs.Prelude.{◌≡◌, ◌++◌, ◌∷◌, [], ◌<◌,
 ghost use Rattle.std.specs.List.{list_all};
 ghost use Rattle.build_commands.specs.Names.{backslashes, escape, is_capital};
 ghost use Rattle.build_commands.specs.Names.{is_permitted as permitted, is_sayable};
-ghost use Rattle.build_commands.specs.Names.{is_special, is_word_of_make, spelled};
+ghost use Rattle.build_commands.specs.Names.{is_mixed, is_special, is_word_of_make, spelled};
 
 use std::alloc::AllocError;
 
@@ -97,6 +97,15 @@ fn is_word_of_make(name: &[u8]) -> bool
     }
 }
 
+/// Whether a name has a backslash, a `#` and a wildcard: make removes one backslash too few then.
+fn is_mixed(name: &[u8]) -> bool
+    ensures { result ≡ is_mixed name.now }
+{
+    name.contains(&b'\\')
+        && name.contains(&b'#')
+        && (name.contains(&b'*') || name.contains(&b'?') || name.contains(&b'['))
+}
+
 /// Returns whether make has a spelling of a name, before and after a colon.
 pub fn is_sayable(name: &[u8]) -> bool
     ensures { result ≡ is_sayable name.now }
@@ -106,6 +115,7 @@ pub fn is_sayable(name: &[u8]) -> bool
     first != b'~'
         && !(last == b' ' || last == b'\\')
         && !is_word_of_make(name)
+        && !is_mixed(name)
         && are_permitted(name)
 }
 

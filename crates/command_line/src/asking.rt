@@ -22,6 +22,9 @@ use clap::ArgMatches;
 use formats::Format;
 use std::alloc::{AllocError, Global};
 
+/// The most bytes of a partition that is filled: as many as the addresses of a flash.
+const MOST_PARTITION: u64 = 1 << 32;
+
 /// The alignment of regular files without an option, in bytes.
 const USUAL_ALIGN: u32 = 4;
 
@@ -342,6 +345,7 @@ fn padding_of<'a>(values: &ArgMatches<'a>) -> Result<Option<Padding>, WordsError
     ensures { IfOk result (IsPadding (rows_of (found_of values.now))) }
 {
     match size_of(values, "size")? {
+        Some(size) if size > MOST_PARTITION => Err(Wrong::Partition(size).into()),
         Some(size) => Ok(Some(Padding {
             size,
             fill: fill_of(values)?,

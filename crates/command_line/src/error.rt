@@ -37,6 +37,8 @@ pub enum Wrong<'a> {
     NoDirectory,
     /// The word is no byte.
     Byte(&'a str),
+    /// The size of a partition is larger than that of any flash.
+    Partition(u64),
     /// A byte after the image is given, and no size.
     FillWithoutSize,
     /// Equal files are to share contents in a format that is not cramfs, or in none.
@@ -105,6 +107,9 @@ impl Display for Wrong<'_> {
                     f,
                     "BYTE is a number up to 255, such as 0xff, and not {word:?}"
                 )
+            }
+            Wrong::Partition(size) => {
+                write!(f, "--size is at most 4294967296 bytes (4G), and not {size}")
             }
             Wrong::FillWithoutSize => write!(f, "'--fill' goes with '--size' only"),
             Wrong::Dedupe => write!(f, "'--dedupe' is for cramfs and cramfs-be"),

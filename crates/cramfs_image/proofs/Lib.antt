@@ -12,6 +12,10 @@ pub mod Shallow
 pub mod Trees
 pub mod Repeats
 pub mod Blocks
+pub mod Pairing
+pub mod Looking
+pub mod Hits
+pub mod Joined
 pub mod Rows
 pub mod Exact
 pub mod Least

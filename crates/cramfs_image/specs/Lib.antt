@@ -5,3 +5,5 @@ pub mod Reported
 pub mod Files
 pub mod Parts
 pub mod Extents
+pub mod Merged
+pub mod SoFar

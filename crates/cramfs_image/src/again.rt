@@ -38,17 +38,19 @@ impl<'a> Cramfs<'a> {
     ghost use Rattle.cramfs_image.specs.Checked.{Shows};
     ghost use Rattle.cramfs_image.specs.Reported.{order_in, report_of};
     ghost use Rattle.cramfs_image.specs.Extents.{AreTheSame};
+    ghost use Rattle.cramfs_image.specs.Merged.{expanded};
 
     /// Returns the extents of an image that a check returned, the same that the check tested for
     /// overlaps: that of the superblock, that of the list of each directory, and those of the block
-    /// pointers and the blocks of each file and link. Extents without a byte are left out. Each of
+    /// pointers and the blocks of each file and link. Whole blocks of a file that follow each other
+    /// are one extent, of a multiple of 4,096 bytes. Extents without a byte are left out. Each of
     /// the others is there at least once, and a whole block only once for each pointer, even if
     /// several files have the pointer. The superblock is first, then the lists in preorder, then
     /// the files in the order of their pointers (the order is not proved).
     ///
     /// The records are read again. For r records and w block pointers, the time grows as n log n,
-    /// with n = r + w. The memory is some 120 bytes a record and 24 a pointer. (Time and memory are
-    /// not proved.)
+    /// with n = r + w. The memory is some 120 bytes a record, and 24 for each whole block that does
+    /// not begin where the one before it in its file ends. (Time and memory are not proved.)
     ///
     /// # Errors
     ///
@@ -60,7 +62,7 @@ impl<'a> Cramfs<'a> {
         ensures { IfOk result (λ v. (b : List ℕ) (most deepest : ℕ) (f : Forest)
             → IsSuperblock (order_in self.now) (⟦<Cramfs<'a> as Viewed>⟧.image self.now).bytes b
             → IsTree (order_in self.now) b most deepest f
-            → AreTheSame v.items (extents_of (order_in self.now) b
+            → AreTheSame (expanded v.items) (extents_of (order_in self.now) b
             (all_rows (references (order_in self.now) b) f))) }
     {
         let parts = self.parts();

@@ -23,8 +23,9 @@ impl<'a> Cramfs<'a> {
     /// with `28 cd 3d 45`, otherwise as little-endian.
     ///
     /// Returns `OutOfMemory` if memory is refused. For r records and w block pointers, the time
-    /// grows as n log n, with n = r + w. The memory is some 120 bytes a record and 24 a pointer.
-    /// (Time and memory are not proved.)
+    /// grows as n log n, with n = r + w. The memory is some 120 bytes a record, and 24 for each
+    /// whole block that does not begin where the one before it in its file ends. (Time and memory
+    /// are not proved.)
     pub fn check(alloc: Global, bytes: &'a [u8], limits: Limits) -> Result<Cramfs<'a>, CheckError>
         ensures ok { IfOk result (λ v. Shows (order_of bytes.now) bytes.now limits
             (⟦<Cramfs<'a> as Viewed>⟧.image v) (report_of v)) }

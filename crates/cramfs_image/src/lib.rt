@@ -19,6 +19,7 @@ pub mod laws;
 mod names;
 mod overlap;
 mod phases;
+mod runs;
 mod soundness;
 mod superblock;
 

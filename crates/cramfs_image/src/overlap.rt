@@ -1,6 +1,6 @@
 //! The extents of the rows of an image, and the phase that looks for two that overlap.
 ghost use Rattle.std.specs.Prelude.{◌≡◌, ◌+◌, ◌*◌, ◌%◌, ◌<◌, ◌≤◌, ◌^◌, ◌++◌, ℕ, max, length, OnOk};
-ghost use Rattle.std.specs.Prelude.{IfOk, true, Option};
+ghost use Rattle.std.specs.Prelude.{IfOk, IsTrue, ◌↔◌, true, Option};
 ghost use Rattle.std.specs.List.{All, AllByRecursion as Every};
 ghost use Rattle.std.specs.List.Sorted.{IsNonDecreasingBy};
 ghost use Rattle.rom_fields.specs.Extents.{OverlapsAt, IsLeastOf, added};
@@ -11,8 +11,14 @@ ghost use Rattle.cramfs_image.specs.Phases.{IsRecord};
 ghost use Rattle.cramfs_image.specs.Files.{list_part, file_part, FileLies, whole_end, whole_blocks};
 ghost use Rattle.cramfs_image.specs.Files.{file_added, AddsFiles};
 ghost use Rattle.cramfs_image.specs.Extents.{AreTheSame};
+ghost use Rattle.cramfs_image.specs.Merged.{expanded};
+ghost use Rattle.cramfs_image.specs.SoFar.{blocks_so_far};
+ghost use Rattle.cramfs_format.specs.Order.{word as word_of};
+ghost use Rattle.cramfs_format.specs.Inode.{block_start};
+ghost use Rattle.rom_fields.specs.declared.span.Extent.TheVariants.{Table, Data};
 
 use crate::accessible::Accessible;
+use crate::runs::least_conflict;
 use crate::soundness::has_contents;
 use cramfs_format::inode::{blocks_of, start_of};
 use record_forest::Row;
@@ -36,7 +42,53 @@ fn add(extents: &mut Vec<Span>, kind: Extent, start: u32, len: u32) -> Result<()
     Ok(())
 }
 
-/// Adds the whole blocks of some pointers from `at` on.
+/// Adds block pointers.
+fn add_table(extents: &mut Vec<Span>, table: u32, len: u32) -> Result<(), OutOfMemory>
+    ensures { OnOk result (expanded extents.new.items ≡ expanded extents.old.items
+        ++ added Table table len) }
+{
+    add(extents, Extent::Table, table, len)
+}
+
+/// Whole blocks, one after the other, that are not added yet.
+#[derive(Clone, Copy, PartialEq, Eq)]
+pub struct Run {
+    pub start: u32,
+    pub len: u32,
+}
+
+/// Whether a block that starts at `next` follows the run.
+fn follows(run: Run, next: u32) -> bool
+    ensures { IsTrue result ↔ (run.start + run.len ≡ next) }
+{
+    run.start <= next && next - run.start == run.len
+}
+
+/// Puts a whole block at the end of the run, if it follows it. Otherwise the run is added, and the
+/// block begins another one, which is returned.
+fn add_block(extents: &mut Vec<Span>, run: Run, next: u32) -> Result<Run, OutOfMemory>
+    requires whole { run.len % 4096 ≡ 0 }
+    requires small { run.len + 4096 < 2 ^ 32 }
+    ensures whole { IfOk result (λ r. r.len % 4096 ≡ 0) }
+    ensures small { IfOk result (λ r. r.len ≤ run.len + 4096) }
+    ensures extents { IfOk result (λ r. blocks_so_far extents.new.items r
+        ≡ blocks_so_far extents.old.items run ++ added Data next 4096) }
+{
+    if follows(run, next) {
+        return Ok(Run {
+            start: run.start,
+            len: run.len + 4_096,
+        });
+    }
+    add(extents, Extent::Data, run.start, run.len)?;
+    Ok(Run {
+        start: next,
+        len: 4_096,
+    })
+}
+
+/// Adds the whole blocks of some pointers from `at` on. Blocks of which each begins where the one
+/// before it ends are one extent.
 fn add_blocks(
     extents: &mut Vec<Span>,
     b: &Accessible<'_>,
@@ -44,15 +96,35 @@ fn add_blocks(
     count: u32,
 ) -> Result<(), OutOfMemory>
     requires small { at + 4 * count < 2 ^ 32 }
+    requires few { count < 4096 }
     requires pointers { (i : ℕ) → i < count → at + 4 * i + 4 ≤ length b.now.bytes.now }
-    ensures { OnOk result (extents.new.items ≡ extents.old.items
+    ensures { OnOk result (expanded extents.new.items ≡ expanded extents.old.items
         ++ whole_blocks b.now.order b.now.bytes.now count at) }
 {
+    let mut run = Run { start: 0, len: 0 };
     'pointers: for i in 0..count {
         let pointer = b.word((at + 4 * i) as usize);
-        add(extents, Extent::Data, start_of(pointer), 4_096)?;
+        run = add_block(extents, run, start_of(pointer))?;
     }
-    Ok(())
+    add(extents, Extent::Data, run.start, run.len)
+}
+
+/// Adds the last block of a file, which is not whole, if there is one.
+fn add_rest(
+    extents: &mut Vec<Span>,
+    b: &Accessible<'_>,
+    at: u32,
+    rest: u32,
+) -> Result<(), OutOfMemory>
+    requires rest { rest < 4096 }
+    requires pointer { 0 < rest → at + 4 ≤ length b.now.bytes.now }
+    ensures { OnOk result (expanded extents.new.items ≡ expanded extents.old.items
+        ++ added Data (block_start (word_of b.now.order b.now.bytes.now at)) rest) }
+{
+    if rest == 0 {
+        return Ok(());
+    }
+    add(extents, Extent::Data, start_of(b.word(at as usize)), rest)
 }
 
 /// Adds the block pointers and the blocks of a file, except the whole blocks of pointers before
@@ -66,18 +138,16 @@ fn add_file(
     requires lies { FileLies b.now.order b.now.bytes.now file }
     requires aligned { done % 4 ≡ 0 }
     requires low { done < 2 ^ 29 }
-    ensures extents { OnOk result (extents.new.items ≡ extents.old.items
+    ensures extents { OnOk result (expanded extents.new.items ≡ expanded extents.old.items
         ++ file_added b.now.order b.now.bytes.now file.table file.size done) }
     ensures done { IfOk result (λ d. d ≡ max done (whole_end file.table file.size)) }
 {
     let end = file.table + 4 * (file.size / 4_096);
     let first = file.table.max(done);
     let rest = file.size % 4_096;
-    add(extents, Extent::Table, file.table, 4 * blocks_of(file.size))?;
+    add_table(extents, file.table, 4 * blocks_of(file.size))?;
     add_blocks(extents, b, first, end.saturating_sub(first) / 4)?;
-    if rest > 0 {
-        add(extents, Extent::Data, start_of(b.word(end as usize)), rest)?;
-    }
+    add_rest(extents, b, end, rest)?;
     Ok(done.max(end))
 }
 
@@ -87,7 +157,7 @@ fn add_files(extents: &mut Vec<Span>, b: &Accessible<'_>, files: &[File]) -> Res
     requires lie { All (FileLies b.now.order b.now.bytes.now) files.now }
     requires sorted { IsNonDecreasingBy (λ (f : File). f.table) files.now }
     ensures { OnOk result (AddsFiles b.now.order b.now.bytes.now files.now
-        extents.old.items extents.new.items) }
+        (expanded extents.old.items) (expanded extents.new.items)) }
 {
     let mut done: u32 = 0;
     'files: for file in files {
@@ -139,16 +209,18 @@ fn add_row(
 
 /// Returns the extents of the superblock and of the records of these rows: first the superblock,
 /// then the lists in the order of the rows, then the block pointers and blocks of files by the
-/// offset of their pointers (the order is not proved).
+/// offset of their pointers (the order is not proved). Whole blocks of a file that follow each
+/// other are one extent.
 pub fn all_extents(
     alloc: Global,
     b: &Accessible<'_>,
     rows: &[Row],
 ) -> Result<Vec<Span>, OutOfMemory>
     requires records { All (λ x. IsRecord b.now.order b.now.bytes.now x.offset) rows.now }
-    ensures same { IfOk result (λ v. AreTheSame v.items
+    ensures same { IfOk result (λ v. AreTheSame (expanded v.items)
         (extents_of b.now.order b.now.bytes.now rows.now)) }
-    ensures overlaps { IfOk result (λ v. (o : Option ℕ) → IsLeastOf (OverlapsAt v.items) o
+    ensures overlaps { IfOk result (λ v. (o : Option ℕ)
+        → IsLeastOf (OverlapsAt (expanded v.items)) o
         → IsLeastOf (OverlapsAt (extents_of b.now.order b.now.bytes.now rows.now)) o) }
 {
     let mut extents: Vec<Span> = Vec::new(alloc);
@@ -173,5 +245,5 @@ pub fn least_overlap(
         (extents_of b.now.order b.now.bytes.now rows.now))) }
 {
     let mut extents = all_extents(alloc, b, rows)?;
-    Ok(rom_fields::least_overlap(&mut extents))
+    Ok(least_conflict(&mut extents))
 }

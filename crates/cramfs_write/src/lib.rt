@@ -13,4 +13,4 @@ mod record;
 mod writing;
 
 pub use image_stream::{SizeDiffers, StreamError};
-pub use writing::{stream, stream_through, write};
+pub use writing::{stream, stream_once, stream_through, write};

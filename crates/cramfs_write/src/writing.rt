@@ -7,12 +7,12 @@ ghost use Rattle.manifest.specs.Lines.{ManifestLines};
 ghost use Rattle.formats.specs.Format.{cramfs};
 ghost use Rattle.manifest_layout.specs.Format.{layout_of};
 ghost use Rattle.plan_types.specs.Plans.{IsPlanOf};
-ghost use Rattle.cramfs_write.specs.Streams.{StreamsPlan};
+ghost use Rattle.cramfs_write.specs.Streams.{StreamsPlan, StreamsPlanOnce};
 
 use crate::form::{CramfsForm, facts, order_of};
 use image_stream::{Crc32, SizeDiffers, Sources, StreamError};
 use plan_types::Plan;
-use rom_fields::{ByteWrite, Contents};
+use rom_fields::{ByteWrite, Contents, Rewrite};
 
 /// Writes the image of a plan, with these contents of its files, into a buffer of its length,
 /// whatever the buffer holds. It takes no memory.
@@ -92,4 +92,35 @@ pub fn stream<S: Sources, W: ByteWrite>(
 {
     let mut space: [u8; 4096] = [0; 4096];
     stream_through(plan, sources, w, space.as_mut_slice())
+}
+
+/// Writes the image of a plan as `stream_through` does, but reads each source whole only once: the
+/// superblock is replaced at the end (`image_stream::stream_once`).
+///
+/// # Errors
+///
+/// `StreamError` has the reasons. Nothing is promised of what was written then.
+pub fn stream_once<S: Sources, W: Rewrite>(
+    plan: &Plan,
+    sources: &mut S,
+    w: &mut W,
+    buffer: &mut [u8],
+) -> Result<(), StreamError>
+    requires format { (o : Order) × (plan.now.format ≡ cramfs o) }
+    requires files { S.files sources.old ≡ length plan.now.sizes }
+    requires room { 4096 ≤ length buffer.old }
+    requires words { length buffer.old % 4 ≡ 0 }
+    ensures { StreamsPlanOnce plan.now
+        (state (S.known sources.old) (S.files sources.old) (S.names sources.old)
+        (S.reads sources.old))
+        (state (S.known sources.new) (S.files sources.new) (S.names sources.new)
+        (S.reads sources.new))
+        (S.IsLog sources.old) (S.IsLog sources.new) (W.output w.old) (W.output w.new) result }
+{
+    let order = order_of(plan);
+    facts(order, plan);
+    manifest_layout::laws::fitting_is_planned();
+    let _ = sources.count();
+    let form = CramfsForm::new(plan, order);
+    image_stream::stream_once::<CramfsForm<'_>, S, W, Crc32>(&form, sources, w, buffer)
 }

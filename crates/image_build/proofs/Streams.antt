@@ -3,8 +3,12 @@ use Rattle.std.proofs.Common.{◌≡◌, ℕ, List, map, length, refl, sym, ap, 
 use Rattle.std.proofs.Common.{◌⊎◌, inl, inr}
 use Rattle.std.proofs.lemmas.List.{length-map}
 use Rattle.std.specs.Io.KnownBytes.{Appends}
-use Rattle.rom_fields.specs.Written.{AppendsPrefix}
+use Rattle.rom_fields.specs.Written.{AppendsPrefix, Output}
+use Rattle.image_stream.specs.Answers.{Answer}
+use Rattle.image_stream.specs.Outcomes.{Streams, StreamsOnce, SourcesState}
+use Rattle.image_stream.specs.Segments.{Form}
 use Rattle.image_stream.specs.Sources.{IfKnown}
+use Rattle.image_stream.specs.declared.error.StreamError.{StreamError}
 use Rattle.cramfs_format.specs.declared.order.Order.{Order}
 use Rattle.cramfs_format.specs.declared.order.Order.TheVariants.{Little, Big}
 use Rattle.plan_types.specs.Plans.{Planned, IsPlanOf}
@@ -64,3 +68,18 @@ pub front : {A E : Type 0} → HoldsAll
     → (bytes : List ℕ) × Builds p.format text cs (Ok bytes) × AppendsPrefix old new bytes))
 front law r known f p text old new e is =
     err_weaker r (λ h cs t s. (layout_of f is.lines cs, built law f p text cs e is s, h cs t s))
+
+-- a stream that replaces nothing promises at least as much
+pub once_of : {A : Type 0} (f : Form) (stored : List ℕ → ℕ) (s s' : SourcesState) (was is : List Answer → Type 0)
+    (w w' : Output) (r : Result A StreamError) → Streams f stored s s' was is w w' r
+    → StreamsOnce f stored s s' was is w w' r
+once_of f stored s s' was is w w' r h = record {
+  known = h.known;
+  files = h.files;
+  names = h.names;
+  some = h.some;
+  sized = h.sized;
+  whole = h.whole;
+  quiet = h.quiet;
+  fault = h.fault;
+}

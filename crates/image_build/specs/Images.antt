@@ -1,5 +1,5 @@
 -- `IsImageWritten`: the image of a plan was appended, with what the sources answered.
--- `IsCheckedImage`: the same, the bytes after it follow, and the last check passed.
+-- `IsCheckedImage`: the same, the bytes after it follow, and then the last check passed.
 -- `IsImageFault`: why it was not. (This project's own.)
 use Rattle.std.specs.Prelude.{ℕ, List, Option, Ok}
 use Rattle.std.specs.Io.KnownBytes.{Appends}
@@ -25,10 +25,12 @@ pub record IsImageWritten (known : Option (List (List ℕ))) (was is : List Answ
   pub built : (text : List ℕ) → IsPlanOfText text p → IfKnown known (λ cs. (bytes : List ℕ)
       × Builds p.format text cs (Ok bytes) × Appends old new bytes)
 
--- the image was appended, then the bytes after it, and the last check passed
-pub record IsCheckedImage (passed : Type 0) (padding : Padding) (known : Option (List (List ℕ)))
-    (was is : List Answer → Type 0) (p : Planned) (old new : Option (List ℕ)) : Type 0 where
-  pub checked : passed
+-- The image was appended, then the bytes after it, and the last check passed while the file had
+-- all of these.
+pub record IsCheckedImage (passed : Option (List ℕ) → Type 0) (padding : Padding)
+    (known : Option (List (List ℕ))) (was is : List Answer → Type 0) (p : Planned)
+    (old new : Option (List ℕ)) : Type 0 where
+  pub checked : passed new
   pub image : Option (List ℕ)
   pub written : IsImageWritten known was is p old image
   pub padded : IsPaddedBy padding image new

@@ -4,7 +4,7 @@ ghost use Rattle.cramfs_format.specs.declared.order.Order.{Order};
 ghost use Rattle.cramfs_format.specs.declared.order.Order.TheVariants.{Little, Big};
 ghost use Rattle.formats.specs.Format.{romfs, cramfs, format_of};
 ghost use Rattle.image_build.specs.Builds.{Builds};
-ghost use Rattle.image_build.specs.Streams.{StreamsPlan};
+ghost use Rattle.image_build.specs.Streams.{StreamsPlan, StreamsPlanOnce};
 ghost use Rattle.image_stream.specs.Outcomes.{state};
 ghost use Rattle.manifest.specs.Grammar.{IsManifest};
 ghost use Rattle.manifest.specs.Lines.{ManifestLines};
@@ -16,7 +16,7 @@ use image_stream::{Sources, StreamError};
 use layout_plan::plan;
 use manifest::parse;
 use plan_types::{Format, Plan};
-use rom_fields::{ByteWrite, Contents, OutOfMemory};
+use rom_fields::{ByteWrite, Contents, OutOfMemory, Rewrite};
 use std::alloc::Global;
 
 /// Returns the sizes of the contents, in their order.
@@ -217,4 +217,33 @@ pub fn stream<S: Sources, W: ByteWrite>(
 {
     let mut space: [u8; 4096] = [0; 4096];
     stream_through(plan, sources, w, space.as_mut_slice())
+}
+
+/// Writes the image of a plan as `stream_through` does, but reads each source whole only once. In
+/// cramfs the superblock is replaced at the end.
+///
+/// # Errors
+///
+/// `StreamError` has the reasons. Nothing is promised of what was written then.
+pub fn stream_once<S: Sources, W: Rewrite>(
+    plan: &Plan,
+    sources: &mut S,
+    w: &mut W,
+    buffer: &mut [u8],
+) -> Result<(), StreamError>
+    requires files { S.files sources.old ≡ length plan.now.sizes }
+    requires room { 4096 ≤ length buffer.old }
+    requires words { length buffer.old % 4 ≡ 0 }
+    ensures { StreamsPlanOnce plan.now
+        (state (S.known sources.old) (S.files sources.old) (S.names sources.old)
+        (S.reads sources.old))
+        (state (S.known sources.new) (S.files sources.new) (S.names sources.new)
+        (S.reads sources.new))
+        (S.IsLog sources.old) (S.IsLog sources.new) (W.output w.old) (W.output w.new) result }
+{
+    manifest_layout::laws::layout_is_meant();
+    match plan.format() {
+        Format::Romfs => romfs_write::stream_through(plan, sources, w, buffer),
+        Format::Cramfs | Format::CramfsBig => cramfs_write::stream_once(plan, sources, w, buffer),
+    }
 }

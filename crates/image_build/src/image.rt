@@ -1,32 +1,32 @@
 //! The image of a plan as what fills a file.
-ghost use Rattle.std.specs.Prelude.{◌≡◌, ◌≤◌, ◌%◌, length, OnOk, IfErr};
+ghost use Rattle.std.specs.Prelude.{◌≡◌, ◌≤◌, ◌%◌, ℕ, List, Option, length, OnOk, IfErr};
 ghost use Rattle.image_build.specs.Images.{IsCheckedImage, IsImageFault};
 
-use crate::build::stream_through;
+use crate::build::{stream_once, stream_through};
 use crate::padding::{Padding, write_padding};
 use atomic_file::Fill;
 use image_stream::{Sources, StreamError};
 use plan_types::Plan;
-use rom_fields::{ByteWrite, Failed};
+use rom_fields::{ByteWrite, Failed, Rewrite};
 
 /// A check that is made after all is written, for example that no source changed.
 pub trait LastCheck {
     /// The reason why it failed.
     type Error: Drop;
 
-    // The check was made, and found nothing.
-    ghost passed: { Self → Type 0 };
+    // The check was made, and found nothing, while the file had these bytes, if they are known.
+    ghost passed: { Self → Option (List ℕ) → Type 0 };
 
     // What an error means, by the check before and after.
     ghost fails: { Self → Self → Self.Error → Type 0 };
 
-    /// Makes the check.
+    /// Makes the check. All is written to the file by then.
     ///
     /// # Errors
     ///
     /// What the check found.
-    fn check(&mut self) -> Result<(), Self::Error>
-        ensures ok { OnOk result (passed self.new) }
+    fn check<W: ByteWrite>(&mut self, file: &W) -> Result<(), Self::Error>
+        ensures ok { OnOk result (passed self.new (W.output file.now).contents) }
         ensures err { IfErr result (λ e. fails self.old self.new e) };
 }
 
@@ -65,7 +65,41 @@ impl<'a, S: Sources, K: LastCheck> Fill for PlanImage<'a, S, K> {
     ghost ready = { λ s. (S.files s.sources ≡ length s.plan.now.sizes)
         × (4096 ≤ length s.buffer.now) × (length s.buffer.now % 4 ≡ 0) };
 
-    fn fill<W: ByteWrite>(&mut self, w: &mut W) -> Result<(), Unwritten<K::Error>> {
+    fn fill<W: Rewrite>(&mut self, w: &mut W) -> Result<(), Unwritten<K::Error>> {
+        match stream_once(self.plan, &mut self.sources, w, self.buffer) {
+            Ok(()) => {}
+            Err(e) => return Err(Unwritten::Stream(e)),
+        }
+        match write_padding(w, self.padding) {
+            Ok(()) => {}
+            Err(Failed) => return Err(Unwritten::Padded),
+        }
+        match self.last.check(&*w) {
+            Ok(()) => Ok(()),
+            Err(e) => Err(Unwritten::Late(e)),
+        }
+    }
+}
+
+impl<'a, S: Sources, K: LastCheck> PlanImage<'a, S, K> {
+    /// Writes all of the bytes to a writer that cannot replace what it took. In cramfs each source
+    /// is read whole twice for that.
+    ///
+    /// # Errors
+    ///
+    /// `Unwritten` has the reasons.
+    pub fn write_through<W: ByteWrite>(&mut self, w: &mut W) -> Result<(), Unwritten<K::Error>>
+        requires files { S.files self.old.sources ≡ length self.old.plan.now.sizes }
+        requires buffer { 4096 ≤ length self.old.buffer.now }
+        requires words { length self.old.buffer.now % 4 ≡ 0 }
+        ensures names { S.names self.new.sources ≡ S.names self.old.sources }
+        ensures ok { OnOk result (IsCheckedImage (K.passed self.new.last) self.old.padding
+            (S.known self.old.sources) (S.IsLog self.old.sources) (S.IsLog self.new.sources)
+            self.old.plan.now (W.output w.old).contents (W.output w.new).contents) }
+        ensures err { IfErr result (λ e. IsImageFault (K.fails self.old.last self.new.last)
+            (S.known self.old.sources) self.old.plan.now (S.reads self.old.sources)
+            (S.reads self.new.sources) (W.output w.old) (W.output w.new) e) }
+    {
         match stream_through(self.plan, &mut self.sources, w, self.buffer) {
             Ok(()) => {}
             Err(e) => return Err(Unwritten::Stream(e)),
@@ -74,9 +108,9 @@ impl<'a, S: Sources, K: LastCheck> Fill for PlanImage<'a, S, K> {
             Ok(()) => {}
             Err(Failed) => return Err(Unwritten::Padded),
         }
-        match self.last.check() {
-            Ok(()) => Ok(()),
-            Err(e) => Err(Unwritten::Late(e)),
+        if let Err(late) = self.last.check(&*w) {
+            return Err(Unwritten::Late(late));
         }
+        Ok(())
     }
 }

@@ -24,7 +24,7 @@ pub mod laws;
 mod padding;
 mod putting;
 
-pub use build::{build_cramfs, build_cramfs_big, build_romfs, stream, stream_through};
+pub use build::{build_cramfs, build_cramfs_big, build_romfs, stream, stream_once, stream_through};
 pub use error::BuildError;
 pub use image::{LastCheck, PlanImage, Unwritten};
 pub use image_stream::StreamError;

@@ -73,14 +73,14 @@ front_of n m xs ws h l =
     let z : n ≤ m = grind (arith, a, b, c, l) in
     sym (take-take n m xs z) ∙ h
 
-name_cut : (o : Order) (b : List ℕ) (p : ℕ) → take (length (name_of o b p)) (drop (p + 12) b) ≡ name_of o b p
+pub name_cut : (o : Order) (b : List ℕ) (p : ℕ) → take (length (name_of o b p)) (drop (p + 12) b) ≡ name_of o b p
 unfolding name_of
 name_cut o b p = front_of (length (without_zeros (take (name_room o b p) (drop (p + 12) b)))) (name_room o b p)
     (drop (p + 12) b) (without_zeros (take (name_room o b p) (drop (p + 12) b)))
     (zeros_cut (take (name_room o b p) (drop (p + 12) b))) refl
 
 module _ (o : Order) (b : List ℕ) where
-  abbrev format : Format
+  abbrev pub format : Format
   format = record {
     bytes = b;
     start = λ p. p + 12;
@@ -109,7 +109,7 @@ module _ (o : Order) (b : List ℕ) where
   places_are p own d = body_places_is kind_numbers (type_of o b p) (places_at o b p) (entries_at o b own)
       ∙ (pick_data (type_of o b p) (places_at o b p) [] ∙ ap (λ (v : Bool). if v then places_at o b p else []) d)
 
-  open_by : (rs : List Record) (e q : ℕ) (f : Forest) → StandsAt o b e q f → AreOpen format rs f
+  pub open_by : (rs : List Record) (e q : ℕ) (f : Forest) → StandsAt o b e q f → AreOpen format rs f
   open_by rs e q none s = tt
   open_by rs e q (at p own after) s = (
     is_open own s.2,
@@ -130,7 +130,7 @@ module _ (o : Order) (b : List ℕ) where
       ]
 
   -- the root's names, from the root's list on
-  root_names : (list : Forest) → type_of o b root_place ≡ 4
+  pub root_names : (list : Forest) → type_of o b root_place ≡ 4
       → names (node_of o b root_place (entries_at o b list))
       ≡ named (47 ∷ []) [] (node_of o b root_place (entries_at o b list)) ∷ entries_names [] (entries_at o b list)
   unfolding names

@@ -76,7 +76,7 @@ module _ (P : ℕ → Type 0) where
           of_rows g (g.after x) directory parent deep after (every_right HoldsOf own_rows after_rows h.1),
         )
 
-    of_all : (g : References) (f : Forest) → Every HoldsOf (all_rows g f) → Every Holds (all_listed entry f)
+    pub of_all : (g : References) (f : Forest) → Every HoldsOf (all_rows g f) → Every Holds (all_listed entry f)
     of_all g none h = tt
     of_all g (at r own after) h =
         let own_rows = rows g (g.own g.top) r r 1 own in

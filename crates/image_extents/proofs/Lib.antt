@@ -16,3 +16,9 @@ pub mod DataRuns
 pub mod Bytes
 pub mod RomfsBytes
 pub mod CramfsBytes
+pub mod Kept
+pub mod Recorded
+pub mod Complete
+pub mod Having
+pub mod RomfsComplete
+pub mod MapLines

@@ -85,7 +85,7 @@ module _ (F : Format) (rs : List Record) where
   AreOpen none = Unit {0}
   AreOpen (at p own after) = ((own ≡ none) ⊎ IsOpen p own) × AreOpen own × AreOpen after
 
-  stated_more : (n d m p : ℕ) (P : List ℕ) → n ≢ 0 → slice_get rs n ≡ Some (entry_of p d) → Stated d P m
+  pub stated_more : (n d m p : ℕ) (P : List ℕ) → n ≢ 0 → slice_get rs n ≡ Some (entry_of p d) → Stated d P m
       → Stated n (P ++ 47 ∷ F.name p) (suc m)
   stated_more n d m p P live get st zero l = absurd (omega (arith, l))
   stated_more n d m p P live get st (suc k) l =
@@ -93,7 +93,7 @@ module _ (F : Format) (rs : List Record) where
       (ap (λ (v : List ℕ). v ++ 47 ∷ take (F.len p) (drop (F.start p) F.bytes)) (st k (omega (arith, l)))
       ∙ ap (λ (v : List ℕ). P ++ 47 ∷ v) (F.cut p))
 
-  length_listed : (n d : ℕ) (f : Forest) → length (listed entry_of n d f) ≡ count f
+  pub length_listed : (n d : ℕ) (f : Forest) → length (listed entry_of n d f) ≡ count f
   length_listed n d none = refl
   length_listed n d (at p own after) =
       let a = length_listed (suc n) n own in
@@ -109,7 +109,7 @@ module _ (F : Format) (rs : List Record) where
     path = P ++ 47 ∷ F.name p
 
     -- the names of an entry that is shown
-    shown_names : F.skip p ≡ false → entries_names P (F.entries (at p own after))
+    pub shown_names : F.skip p ≡ false → entries_names P (F.entries (at p own after))
         ≡ a_name (P ++ 47 ∷ F.name p) (F.name p) (F.make p (F.entries own))
         ∷ (node_names (P ++ 47 ∷ F.name p) (F.make p (F.entries own)) ++ entries_names P (F.entries after))
     shown_names s = ap (entries_names P) (F.shown p own after s)
@@ -138,14 +138,14 @@ module _ (F : Format) (rs : List Record) where
               (Contains-append_right below (entries_names P (F.entries after)) m c))
         ] refl
 
-    after_deep : entries_depth (F.entries after) ≤ entries_depth (F.entries (at p own after))
+    pub after_deep : entries_depth (F.entries after) ≤ entries_depth (F.entries (at p own after))
     after_deep = elim (F.skip p) as
         (λ v. F.skip p ≡ v → entries_depth (F.entries after) ≤ entries_depth (F.entries (at p own after))) [
           | true ↦ λ s. let e = ap entries_depth (F.skipped p own after s) in omega (arith, e)
           | false ↦ λ s. let e = ap entries_depth (F.shown p own after s) in omega (arith, e)
         ] refl
 
-    own_deep : IsOpen p own → suc (entries_depth (F.entries own)) ≤ entries_depth (F.entries (at p own after))
+    pub own_deep : IsOpen p own → suc (entries_depth (F.entries own)) ≤ entries_depth (F.entries (at p own after))
     own_deep o =
         let e = ap entries_depth (F.shown p own after o.shown) in
         let d = o.deep in

@@ -62,16 +62,16 @@ zero_cut (x ∷ xs) = elim (x == 0) as
     (λ v. take (length (if v then [] else x ∷ before_zero xs)) (x ∷ xs) ≡ (if v then [] else x ∷ before_zero xs))
     [ true ↦ refl | false ↦ ap (λ (v : List ℕ). x ∷ v) (zero_cut xs) ]
 
-name_cut : (b : List ℕ) (p : ℕ) → take (length (name_of b p)) (drop (p + 16) b) ≡ name_of b p
+pub name_cut : (b : List ℕ) (p : ℕ) → take (length (name_of b p)) (drop (p + 16) b) ≡ name_of b p
 unfolding name_of
 name_cut b p = zero_cut (drop (p + 16) b)
 
 -- `.` and `..` are hard links
-abbrev IsDotLink : List ℕ → ℕ → Type 0
+abbrev pub IsDotLink : List ℕ → ℕ → Type 0
 IsDotLink b p = is_dots (name_of b p) ≡ true → type_of b p ≡ 0
 
 module _ (b : List ℕ) where
-  abbrev format : Format
+  abbrev pub format : Format
   format = record {
     bytes = b;
     start = λ p. p + 16;
@@ -118,7 +118,7 @@ module _ (b : List ℕ) where
   unfolding first_of
   list_kind p n = elim (eqb_tells (type_of b p) 1) [ inl h ↦ h.1 | inr h ↦ absurd (n (rw h.0 refl)) ]
 
-  open_by : (rs : List Record) (q : ℕ) (f : Forest) → StandsAt b q f → Everywhere (IsDotLink b) f
+  pub open_by : (rs : List Record) (q : ℕ) (f : Forest) → StandsAt b q f → Everywhere (IsDotLink b) f
       → AreOpen format rs f
   open_by rs q none s h = tt
   open_by rs q (at p own after) s h = (
@@ -140,7 +140,7 @@ module _ (b : List ℕ) where
             deep = ap (λ (z : ℕ). depth (node_of b z es)) same ∙ directory_depth b p es kind;
           })
 
-  root_names : (r : ℕ) (list : Forest) → type_of b r ≡ 1 → names (node_of b r (entries_at b list))
+  pub root_names : (r : ℕ) (list : Forest) → type_of b r ≡ 1 → names (node_of b r (entries_at b list))
       ≡ named (47 ∷ []) [] (node_of b r (entries_at b list)) ∷ entries_names [] (entries_at b list)
   unfolding names
   root_names r list t = ap (λ (v : List Name). named (47 ∷ []) [] (node_of b r (entries_at b list)) ∷ v)
@@ -151,14 +151,15 @@ module _ (b : List ℕ) (r : ℕ) (list : Forest) (e : Extents) where
   abbrev records : List Record
   records = root_entry r ∷ listed (romfs_entry b) 1 0 list
 
-  named_below : StandsAt b (start_of b r) list → Everywhere (IsDotLink b) list → entries_depth (entries_at b list) ≤ 64
+  pub named_below : StandsAt b (start_of b r) list → Everywhere (IsDotLink b) list
+      → entries_depth (entries_at b list) ≤ 64
       → Each (format b) records (entries_names [] (entries_at b list)) 1 (listed (romfs_entry b) 1 0 list)
   named_below s dots deep = are_named (format b) records 1 0 0 [] list (root_entry r ∷ []) []
       (ap (λ (v : List Record). root_entry r ∷ v) (sym (append-nil (listed (romfs_entry b) 1 0 list)))) refl
       (omega arith) (λ most l. path_root b records most 0 refl) (omega (arith, deep))
       (open_by b records (start_of b r) list s dots)
 
-  all_shown : Everywhere (IsDotLink b) list
+  pub all_shown : Everywhere (IsDotLink b) list
       → Every (λ (x : Record). has_data (type_of b x.offset) ≡ true → is_dots (name_of b x.offset) ≡ false)
       (listed (romfs_entry b) 1 0 list)
   all_shown dots = every_weaker (λ (x : Record). IsDotLink b x.offset)
@@ -244,13 +245,14 @@ unfolding reference_offset
 after_is b r live = rw (ne_eqb r 0 live) refl
 
 -- the two lists of the root stand in the bytes, and their `.` and `..` are links
-record AreKnown (b : List ℕ) (r : ℕ) (own after : Forest) : Type 0 where
-  own_stands : StandsAt b (list_of b r r) own
-  after_stands : StandsAt b (following b r r) after
-  own_dots : Everywhere (IsDotLink b) own
-  after_dots : Everywhere (IsDotLink b) after
+pub record AreKnown (b : List ℕ) (r : ℕ) (own after : Forest) : Type 0 where
+  pub own_stands : StandsAt b (list_of b r r) own
+  pub after_stands : StandsAt b (following b r r) after
+  pub own_dots : Everywhere (IsDotLink b) own
+  pub after_dots : Everywhere (IsDotLink b) after
 
-are_known : (b : List ℕ) (r most deepest : ℕ) → r ≢ 0 → (own after : Forest) → IsTree b r most deepest (at r own after)
+pub are_known : (b : List ℕ) (r most deepest : ℕ) → r ≢ 0 → (own after : Forest)
+    → IsTree b r most deepest (at r own after)
     → AreKnown b r own after
 are_known b r most deepest live own after t =
     let g = references b r in
@@ -295,12 +297,12 @@ unfolding list_of start_of
 start_other b r e = rw (eq-eqb r r refl, e) refl
 
 -- the root's list without the root
-record IsList (b : List ℕ) (r : ℕ) : Type 0 where
-  stands : StandsAt b (start_of b r) (grow most_records b (start_of b r))
-  dots : Everywhere (IsDotLink b) (grow most_records b (start_of b r))
-  below : below_root b r (romfs_forest b r) ≡ grow most_records b (start_of b r)
+pub record IsList (b : List ℕ) (r : ℕ) : Type 0 where
+  pub stands : StandsAt b (start_of b r) (grow most_records b (start_of b r))
+  pub dots : Everywhere (IsDotLink b) (grow most_records b (start_of b r))
+  pub below : below_root b r (romfs_forest b r) ≡ grow most_records b (start_of b r)
 
-is_list : (b : List ℕ) (r : ℕ)
+pub is_list : (b : List ℕ) (r : ℕ)
     → AreKnown b r (grow most_records b (list_of b r r)) (grow most_records b (following b r r)) → IsList b r
 unfolding romfs_forest
 is_list b r k = by (heads_itself b r) refl

@@ -25,7 +25,7 @@ if_true : (c d : Bool) → (if c then d else false) ≡ true → (c ≡ true) ×
 if_true true d h = (refl, h)
 if_true false d h = absurd (true≢false (sym h))
 
-table_is : (t : ℕ × ℕ) (u : Option (ℕ × ℕ)) → is_table t u ≡ true → u ≡ Some t
+pub table_is : (t : ℕ × ℕ) (u : Option (ℕ × ℕ)) → is_table t u ≡ true → u ≡ Some t
 table_is t None h = absurd (true≢false (sym h))
 table_is t (Some u) h =
     let s = if_true (t.0 == u.0) (t.1 == u.1) h in
@@ -120,7 +120,7 @@ module _ (table : Record → Option (ℕ × ℕ)) where
   none_at zero = refl
   none_at (suc m) = refl
 
-  is_itself : (t : ℕ × ℕ) → is_table t (Some t) ≡ true
+  pub is_itself : (t : ℕ × ℕ) → is_table t (Some t) ≡ true
   is_itself t = rw (eq-eqb t.0 t.0 refl, eq-eqb t.1 t.1 refl) refl
 
   -- the first one is there, and not after another one

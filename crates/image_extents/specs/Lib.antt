@@ -7,3 +7,4 @@ pub mod Apart
 pub mod Which
 pub mod Ranges
 pub mod Owned
+pub mod Complete

@@ -1,14 +1,17 @@
 //! Laws of the lines of extents, as functions without code.
-ghost use Rattle.std.specs.Prelude.{ℕ, List, length, max};
-ghost use Rattle.std.specs.List.{All};
+ghost use Rattle.std.specs.Prelude.{ℕ, List, None, length, max};
+ghost use Rattle.std.specs.List.{All, Contains};
 ghost use Rattle.cramfs_format.specs.Superblock.{accessible as cramfs_accessible};
 ghost use Rattle.cramfs_format.specs.Tree.{tree_of as cramfs_tree_of};
 ghost use Rattle.cramfs_format.specs.declared.order.Order.{Order};
-ghost use Rattle.image_extents.specs.Lines.{extents_text};
+ghost use Rattle.image_extents.specs.Complete.{Finds, HasAllBytes, HasAllBytesOfNodes, HasLine};
+ghost use Rattle.image_extents.specs.Complete.{IsPlain};
+ghost use Rattle.image_extents.specs.Lines.{extents_text, line_of, owners};
 ghost use Rattle.image_extents.specs.Found.{table_in};
 ghost use Rattle.image_extents.specs.Owned.{AreOfFiles, HasOwners};
 ghost use Rattle.image_extents.specs.Ranges.{ShareOut};
 ghost use Rattle.image_extents.specs.Sorted.{AreCramfs, AreRomfs};
+ghost use Rattle.image_extents.specs.declared.extent.Extent.{Extent};
 ghost use Rattle.image_extents.specs.declared.extent.Extents.{Extents};
 ghost use Rattle.image_info.specs.Held.{HoldsCramfs, HoldsRomfs};
 ghost use Rattle.romfs_format.specs.Superblock.{accessible as romfs_accessible};
@@ -44,4 +47,43 @@ pub fn owners_share()
     ensures { (o : Order) (all : List ℕ) (e : Extents) → HoldsCramfs o all
         → AreCramfs o (cramfs_accessible o all) e
         → All (HasOwners (table_in o (cramfs_accessible o all)) e) e.extents.items }
+{}
+
+/// States that no byte of a file is left out, in a checked image: each byte of each file and each
+/// link of the image's tree is in an extent of data, as this byte of the contents, and a record
+/// that has the bytes of the extent has the path of the file. In cramfs this holds for each path of
+/// the file; in romfs for one of them, since hard links are records without bytes.
+pub fn extents_are_complete()
+    ensures romfs { (all : List ℕ) (r : ℕ) (e : Extents) (h : HoldsRomfs all r)
+        → AreRomfs (romfs_accessible all) r e
+        → HasAllBytesOfNodes (romfs_tree_of (romfs_accessible all) r h.forest) e }
+    ensures cramfs { (o : Order) (all : List ℕ) (e : Extents) (h : HoldsCramfs o all)
+        → AreCramfs o (cramfs_accessible o all) e
+        → HasAllBytes (cramfs_tree_of o (cramfs_accessible o all) h.forest) e }
+{}
+
+/// States that `map --all` leaves out no extent: its lines have one for each extent, with each
+/// record that has the bytes of the extent.
+pub fn map_has_all()
+    ensures { (base file : ℕ) (e : Extents) (x : Extent) (i : ℕ) → Contains e.extents.items x
+        → Contains (owners e x) i
+        → HasLine (extents_text base file e) (line_of base e None x i) }
+{}
+
+/// States what `which` writes of the byte of an address that an extent has, in a checked image: the
+/// lines of all extents that have the byte, in their order.
+pub fn which_has_all()
+    ensures romfs { (all : List ℕ) (r : ℕ) (e : Extents) (base file : ℕ) → HoldsRomfs all r
+        → AreRomfs (romfs_accessible all) r e → IsPlain base file e }
+    ensures cramfs { (o : Order) (all : List ℕ) (e : Extents) (base file : ℕ) → HoldsCramfs o all
+        → AreCramfs o (cramfs_accessible o all) e → IsPlain base file e }
+{}
+
+/// States the same line by line: there is a line for each extent that has the byte, with each
+/// record that has the bytes of this extent, and no other line.
+pub fn which_finds()
+    ensures romfs { (all : List ℕ) (r : ℕ) (e : Extents) (base file : ℕ) → HoldsRomfs all r
+        → AreRomfs (romfs_accessible all) r e → Finds base file e }
+    ensures cramfs { (o : Order) (all : List ℕ) (e : Extents) (base file : ℕ) → HoldsCramfs o all
+        → AreCramfs o (cramfs_accessible o all) e → Finds base file e }
 {}

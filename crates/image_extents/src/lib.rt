@@ -7,7 +7,9 @@
 //!
 //! Proved: the lines of a checked image share out the bytes of its file, and data are the bytes of
 //! the file whose path their lines have. The records that have the bytes of an extent are exactly
-//! those with its block pointers (`laws`).
+//! those with its block pointers (`laws`). No byte of a file is left out of the extents, nor an
+//! extent out of the lines; `which` writes the lines of all extents that have the byte
+//! (`specs/Complete.antt`).
 #![tactic(auto)]
 
 mod collecting;

@@ -28,6 +28,7 @@ use Rattle.cramfs_image.specs.declared.image.Cramfs.{Cramfs}
 use Rattle.cramfs_image.specs.Reported.{order_in}
 use Rattle.cramfs_image.specs.Checked.{Shows as CramfsShows}
 use Rattle.cramfs_image.specs.Extents.{AreTheSame}
+use Rattle.cramfs_image.specs.Merged.{expanded}
 use Rattle.image_check.specs.declared.any.AnyImage.{AnyImage}
 use Rattle.image_check.specs.declared.any.AnyImage.TheVariants.{Romfs as InRomfs, Cramfs as InCramfs}
 use Rattle.image_check.specs.Any.{any_view, report_of}
@@ -36,7 +37,7 @@ use Rattle.image_check.proofs.Formats.{apart}
 use Rattle.image_info.specs.Unused.{unused}
 use Rattle.image_info.specs.Gaps.{romfs_extents, romfs_gaps, cramfs_forest, cramfs_extents, cramfs_gaps, IsChecked}
 use Rattle.image_info.specs.Held.{HoldsRomfs, HoldsCramfs}
-use Rattle.image_info.proofs.Covered.{unused_same}
+use Rattle.image_info.proofs.Covered.{unused_same, unused_expanded}
 use Rattle.image_info.proofs.Forests.{romfs_is, cramfs_is}
 
 -- an image that a check shows is one that it returned
@@ -197,7 +198,7 @@ cramfs_known o all size h small e =
 pub cramfs_counted : (o : Order) (all : List ℕ) (size result : ℕ) (given spans : List Span) → HoldsCramfs o all
     → size ≡ accessible_size o all → given ≡ spans
     → ((b : List ℕ) (most deepest : ℕ) (f : Forest) → IsCramfsSuperblock o all b → IsCramfsTree o b most deepest f
-    → AreTheSame spans (extents_of_cramfs o b (all_rows (cramfs_references o b) f)))
+    → AreTheSame (expanded spans) (extents_of_cramfs o b (all_rows (cramfs_references o b) f)))
     → result ≡ unused given 0 size → result ≡ cramfs_gaps o all
 unfolding cramfs_gaps cramfs_extents
 cramfs_counted o all size result given spans h e g f u =
@@ -208,6 +209,7 @@ cramfs_counted o all size result given spans h e g f u =
     let same = f b h.most h.deepest h.forest h.superblock h.whole in
     let is : cramfs_forest o b ≡ h.forest = cramfs_is o b h.most h.deepest h.forest h.whole h.few in
     u ∙ ap (λ (v : List Span). unused v 0 size) g
-    ∙ unused_same spans (extents_of_cramfs o b (all_rows (cramfs_references o b) h.forest)) 0 size same
+    ∙ unused_expanded spans 0 size
+    ∙ unused_same (expanded spans) (extents_of_cramfs o b (all_rows (cramfs_references o b) h.forest)) 0 size same
     ∙ ap (λ (v : Forest). unused (extents_of_cramfs o b (all_rows (cramfs_references o b) v)) 0 size) (sym is)
     ∙ ap (unused (extents_of_cramfs o b (all_rows (cramfs_references o b) (cramfs_forest o b))) 0) n

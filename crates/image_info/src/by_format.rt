@@ -54,8 +54,9 @@ pub(crate) fn put_superblock<W: ByteWrite>(
 
 /// Counts the accessible bytes of an image that nothing uses: no superblock, record with its name,
 /// list, table or contents. The records are read again. For r records and w block pointers, the
-/// time grows as n log n, with n = r + w. The memory is some 120 bytes a record and 24 a pointer.
-/// (Time and memory are not proved.)
+/// time grows as n log n, with n = r + w. The memory is some 120 bytes a record, and in cramfs 24
+/// for each whole block that does not begin where the one before it in its file ends. (Time and
+/// memory are not proved.)
 ///
 /// # Errors
 ///

@@ -10,3 +10,4 @@ pub mod Laid
 pub mod Weights
 pub mod ByWords
 pub mod Results
+pub mod Once

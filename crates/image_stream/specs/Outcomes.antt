@@ -1,4 +1,5 @@
--- `Streams`: what a stream of an image promises. `IsWritten`, `IsStreamed`: a whole image was
+-- `Streams`: what a stream of an image promises. `StreamsOnce`: the same of one whose writer can
+-- replace the superblock. `IsWritten`, `IsStreamed`: a whole image was
 -- written. `IsStreamFault`: the meaning of each error of a stream. `IsLeastWrong`: the first file
 -- of another size than planned. (This project's own.)
 use Rattle.std.specs.Prelude.{◌≡◌, ◌≢◌, ℕ, ◌<◌, List, ◌++◌, length, get_or, Option, Result, OnOk}
@@ -102,4 +103,20 @@ pub record Streams {A : Type 0} (f : Form) (stored : List ℕ → ℕ) (s s' : S
   pub quiet : OnOk result ((s'.reads ≡ s.reads) × (w'.failures ≡ w.failures))
   pub front : OnErr result (IfKnown s.known
       (λ cs. AppendsPrefix w.contents w'.contents (image_of f stored cs)))
+  pub fault : IfErr result (IsStreamFault s.known f stored s.reads s'.reads w w')
+
+-- What a stream of an image promises if its superblock is replaced at the end. At `Ok`, and of the
+-- errors, it is what `Streams` promises, but the contents are read whole only once, so they never
+-- change between two reads (`once`). After an error, nothing is promised of what was written.
+pub record StreamsOnce {A : Type 0} (f : Form) (stored : List ℕ → ℕ) (s s' : SourcesState)
+    (was is : List Answer → Type 0) (w w' : Output)
+    (result : Result A StreamError) : Type 0 where
+  pub known : s'.known ≡ s.known
+  pub files : s'.files ≡ s.files
+  pub names : s'.names ≡ s.names
+  pub some : OnOk result (IsStreamed s.known was is f stored w.contents w'.contents)
+  pub sized : OnOk result (IfKnown s.known (AreSized f.sizes))
+  pub whole : OnOk result (IfKnown s.known
+      (λ cs. Appends w.contents w'.contents (image_of f stored cs)))
+  pub quiet : OnOk result ((s'.reads ≡ s.reads) × (w'.failures ≡ w.failures))
   pub fault : IfErr result (IsStreamFault s.known f stored s.reads s'.reads w w')

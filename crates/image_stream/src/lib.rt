@@ -1,11 +1,13 @@
 //! Images that are written section by section. `write` puts an image of a superblock and segments
 //! into memory. `stream_through` and `stream` write it to a writer, through a buffer of the
-//! caller's or one of 4,096 bytes, whatever the image's length.
+//! caller's or one of 4,096 bytes, whatever the image's length. `stream_once` does so to a writer
+//! that can replace the superblock at the end, and reads the contents of each file only once.
 //!
-//! Proved: an `Ok` of `write` or `stream` means that exactly this image was written, with the
-//! contents that were read last; `specs/Outcomes.antt` has the meaning of each error. An image is a
-//! superblock, which stores a checksum of the whole, and segments at their offsets: bytes that are
-//! known, or the contents of a file (`specs/Segments.antt`). Every other byte is zero.
+//! Proved: an `Ok` of `write`, `stream` or `stream_once` means that exactly this image was written,
+//! with the contents that were read last; `specs/Outcomes.antt` has the meaning of each error. An
+//! image is a superblock, which stores a checksum of the whole, and segments at their offsets:
+//! bytes that are known, or the contents of a file (`specs/Segments.antt`). Every other byte is
+//! zero.
 #![tactic(auto)]
 
 mod checksum;
@@ -30,6 +32,6 @@ pub use outline::Outline;
 pub use segmented::Segmented;
 pub use slices::Slices;
 pub use sources::{SourceFailed, Sources};
-pub use streaming::{stream, stream_through};
+pub use streaming::{stream, stream_once, stream_through};
 pub use word_sum::WordSum;
 pub use writing::write;

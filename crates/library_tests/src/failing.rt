@@ -81,10 +81,10 @@ fn a_writer_of_a_session_that_fails(rt: HostRuntime) {
     assert!(rt; is_ended(found, Err(ServeError::WriteFault), b"0 ok 0:32\n", 11));
 }
 
-/// How serving ends if each byte is a read, and at most this number of reads is made.
-fn bounded(alloc: Global, reads: u64) -> Option<Ended> {
+/// How serving of some bytes ends if each byte is a read, and at most this number of reads is made.
+fn bounded(alloc: Global, bytes: &[u8], reads: u64) -> Option<Ended> {
     let image = sound(alloc, HELLO).ok()?;
-    let mut r = Plain::new(LINES);
+    let mut r = Plain::new(bytes);
     let mut w = Plain::new(Vec::new(alloc));
     let ended = serve_bounded(image, &mut r, &mut w, reads);
     Some((ended, w.into_inner(), r.into_inner().len()))
@@ -93,8 +93,29 @@ fn bounded(alloc: Global, reads: u64) -> Option<Ended> {
 #[test]
 fn reads_are_bounded(rt: HostRuntime) {
     let too_many = Err(ServeError::TooManyReads);
-    assert!(rt; is_ended(bounded(rt.alloc(), 9), too_many, b"ok 32\n", 11));
-    assert!(rt; is_ended(bounded(rt.alloc(), 21), Ok(()), b"ok 32\nok 32\n", 0));
+    assert!(rt; is_ended(bounded(rt.alloc(), LINES, 9), too_many, b"ok 32\n", 11));
+    assert!(rt; is_ended(bounded(rt.alloc(), LINES, 21), Ok(()), b"ok 32\nok 32\n", 0));
+}
+
+#[test]
+fn reads_of_one_line(rt: HostRuntime) {
+    let (line, too_many) = (b"lookup /\n", Err(ServeError::TooManyReads));
+    assert!(rt; is_ended(bounded(rt.alloc(), line, 9), too_many, b"ok 32\n", 0));
+    // the tenth read finds the end
+    assert!(rt; is_ended(bounded(rt.alloc(), line, 10), Ok(()), b"ok 32\n", 0));
+}
+
+#[test]
+fn reads_of_a_line_without_an_end(rt: HostRuntime) {
+    let too_many = Err(ServeError::TooManyReads);
+    assert!(rt;
+        is_ended(
+            bounded(rt.alloc(), &[b'x'; 10_001], 10_000),
+            too_many,
+            b"",
+            1
+        )
+    );
 }
 
 #[test]

@@ -6,7 +6,7 @@ ghost use Rattle.atomic_file.specs.Log.{Logs};
 use atomic_file::{
     Account, Answer, Asked, Bytes, CreateError, Directory, Durability, LeftError, Names, replace,
 };
-use rom_fields::{Failed, Plain};
+use rom_fields::{Failed, Memory as Part};
 use std::alloc::{AllocError, Global};
 
 /// The file is 0, and its part is 1.
@@ -65,7 +65,7 @@ impl Directory for Memory {
     ghost use Rattle.std.specs.Prelude.{[], Some};
     ghost use Rattle.atomic_file.specs.Accounts.{log_of, room_of};
 
-    type Part = Plain<Vec<u8>>;
+    type Part = Part;
 
     type Synced = ();
 
@@ -75,9 +75,9 @@ impl Directory for Memory {
 
     ghost fresh = { Some [] };
 
-    fn create_new(&mut self, name: u32) -> Result<Plain<Vec<u8>>, CreateError> {
+    fn create_new(&mut self, name: u32) -> Result<Part, CreateError> {
         match self.answer(Asked::Create(name)) {
-            Ok(()) => Ok(Plain::new(Vec::new(self.alloc))),
+            Ok(()) => Ok(Part::new(self.alloc)),
             Err(Failed) => Err(CreateError::Refused),
         }
     }
@@ -87,8 +87,8 @@ impl Directory for Memory {
         Err(LeftError::Missing)
     }
 
-    fn sync(&mut self, part: Plain<Vec<u8>>) -> Result<(), Failed> {
-        let bytes = part.into_inner();
+    fn sync(&mut self, part: Part) -> Result<(), Failed> {
+        let bytes = part.into_bytes();
         self.part = bytes.as_slice().to_vec(self.alloc).ok();
         self.answer(Asked::Sync(Some(bytes)))
     }

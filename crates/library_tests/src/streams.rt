@@ -2,8 +2,10 @@
 //! in memory.
 use crate::made::{FORMATS, built, contents_of, planned};
 use crate::spoiled::{Fault, Spoiled};
-use image_build::{Contents, Format, Plan, Sources, StreamError, stream};
-use rom_fields::{ByteWrite, Faulty, Plain};
+use image_build::{
+    BuildError, Contents, Format, Plan, Sources, StreamError, build_romfs, stream, stream_once,
+};
+use rom_fields::{ByteWrite, Faulty, Memory, Plain};
 use std::alloc::Global;
 use std::test::Fail;
 
@@ -107,6 +109,21 @@ fn writes_fail_in_turn(alloc: Global, format: Format) -> Result<bool, Fail> {
 }
 
 #[test]
+fn contents_of_another_size(rt: HostRuntime) -> Result<(), Fail> {
+    let (text, _, sizes) = FITTING[0];
+    let differs = Some(Err(StreamError::SizeDiffers { file: 0 }));
+    for format in FORMATS {
+        let plan = planned(rt.alloc(), text, sizes, format)?;
+        let (held, ended) = sent(rt.alloc(), &plan, &[b"hello!"], u64::MAX)?;
+        assert!(rt; ended == differs);
+        assert!(rt; held.is_empty());
+        let none = Contents::new(rt.alloc());
+        assert!(rt; matches!(build_romfs(rt.alloc(), text, &none), Err(BuildError::Count)));
+    }
+    Ok(())
+}
+
+#[test]
 fn each_write_fails_in_turn(rt: HostRuntime) -> Result<(), Fail> {
     for format in FORMATS {
         assert!(rt; writes_fail_in_turn(rt.alloc(), format)?);
@@ -199,6 +216,52 @@ fn contents_that_change_are_printed(rt: HostRuntime) -> Result<(), Fail> {
             let ended = ended_after(rt.alloc(), FITTING[0], format, Fault::Changed, sound)?;
             assert!(rt; ended == want);
         }
+    }
+    Ok(())
+}
+
+/// Streams a plan, and replaces the superblock at the end, from sources that fail after this number
+/// of reads.
+fn streamed_once(plan: &Plan, contents: &Contents<'_>, sound: u64, w: &mut Memory) -> Ended {
+    let mut sources = Spoiled::new(contents, Fault::Unreadable, sound);
+    let mut space: [u8; 4096] = [0; 4096];
+    if sources.count() == plan.sizes().len() {
+        Some(stream_once(plan, &mut sources, w, space.as_mut_slice()))
+    } else {
+        None
+    }
+}
+
+/// What a stream that replaces the superblock writes, from sources that fail after this number of
+/// reads, and how it ends.
+fn sent_once(
+    alloc: Global,
+    plan: &Plan,
+    all: &[&[u8]],
+    sound: u64,
+) -> Result<(Vec<u8>, Ended), Fail> {
+    let contents = contents_of(alloc, all)?;
+    let mut w = Memory::new(alloc);
+    let ended = streamed_once(plan, &contents, sound, &mut w);
+    Ok((w.into_bytes(), ended))
+}
+
+/// Whether a stream that replaces the superblock reads 9 times: for the sizes 2, 2 and 1 times, and
+/// for the bytes 1, 3 and 0 times.
+fn reads_once(alloc: Global, format: Format) -> Result<bool, Fail> {
+    let (text, all, sizes) = FITTING[1];
+    let image = image_of(alloc, text, all, format)?;
+    let plan = planned(alloc, text, sizes, format)?;
+    let (whole, ended) = sent_once(alloc, &plan, all, 9)?;
+    let (_, failed) = sent_once(alloc, &plan, all, 8)?;
+    let is_failed = matches!(&failed, Some(Err(StreamError::SourceFault { file: _ })));
+    Ok(ended == Some(Ok(())) && whole.as_slice() == image.as_slice() && is_failed)
+}
+
+#[test]
+fn contents_are_read_once_for_cramfs(rt: HostRuntime) -> Result<(), Fail> {
+    for format in [Format::Cramfs, Format::CramfsBig] {
+        assert!(rt; reads_once(rt.alloc(), format)?);
     }
     Ok(())
 }

@@ -1,5 +1,6 @@
-//! Words, and windows of a buffer.
-use rom_fields::{Canvas, be32, le32, part, put_be32, put_le32};
+//! Words and their sums, extents, and windows of a buffer.
+use crc::{crc32, crc32_more};
+use rom_fields::{Canvas, Extent, Extents, be32, le32, part, put_be32, put_le32, word_sum};
 use std::test::Fail;
 
 #[test]
@@ -21,6 +22,28 @@ fn words_that_are_put(rt: HostRuntime) -> Result<(), Fail> {
     assert!(rt; five == [9, 1, 2, 3, 4]);
     assert!(rt; put_le32(&mut five, 0, 0x0506_0708));
     assert!(rt; five == [8, 7, 6, 5, 4]);
+    Ok(())
+}
+
+#[test]
+fn sums(rt: HostRuntime) -> Result<(), Fail> {
+    // a rest of fewer than four bytes is not counted
+    assert!(rt; word_sum(&[0, 0, 0, 2, 0xff]) == 2);
+    // the check value of CRC-32
+    assert!(rt; crc32(b"123456789") == 0xcbf4_3926);
+    assert!(rt; crc32_more(crc32(b"12345"), b"6789") == 0xcbf4_3926);
+    Ok(())
+}
+
+#[test]
+fn extents_that_overlap(rt: HostRuntime) -> Result<(), Fail> {
+    let mut extents = Extents::new(rt.alloc());
+    extents.add(Extent::Data, 0, 4)?;
+    extents.add(Extent::Data, 0, 4)?;
+    extents.add(Extent::Data, 4, 4)?;
+    assert!(rt; extents.first_overlap().is_none());
+    extents.add(Extent::Record, 2, 4)?;
+    assert!(rt; extents.first_overlap() == Some(2));
     Ok(())
 }
 

@@ -73,13 +73,13 @@ target_by ls l h = by l.word refl h
     by Hard e f = f
     by Same e f = ap not (ap is_dir e)
 
-pub more_targets : (ls : List Line) (l : Line) → fault_of ls l ≡ None
+pub more_targets : (ls : List Line) (l : Line) → has_target ls l.word l.text ≡ true
     → ((q : List ℕ) → is_target (led ls q) ≡ is_no_directory (line_at ls q))
     → (q : List ℕ) → is_target (led (l ∷ ls) q) ≡ is_no_directory (line_at (l ∷ ls) q)
 more_targets ls l s h q =
     elim (bytes_eq l.path q) as (λ t. is_target (cond t (cond (is_hard l.word) (led ls l.text) (Some l)) (led ls q))
     ≡ is_no_directory (cond t (Some l) (line_at ls q))) [
-      | true ↦ target_by ls l (sound_target ls l s)
+      | true ↦ target_by ls l s
       | false ↦ h q
     ]
 
@@ -94,7 +94,7 @@ sources-append (l ∷ ls) ms = elim (is_file l.word) as
       | false ↦ sources-append ls ms
     ]
 
-pub adds : (old new : Reader) (l : Line) → IsKept old → fault_of (reverse old.lines.items) l ≡ None
+pub adds : (old new : Reader) (l : Line) → IsKept old → has_target (reverse old.lines.items) l.word l.text ≡ true
     → new.lines.items ≡ old.lines.items ++ l ∷ [] → new.volume ≡ old.volume → new.volume_line ≡ old.volume_line
     → HasMore l.path (reached_by l (has_contents (reverse old.lines.items) l)) old.paths new.paths
     → new.sources.items ≡ old.sources.items ++ sources_of (l ∷ []) → Adds old new l

@@ -111,7 +111,7 @@ checked_lines m text h = by (read_lines nothing_read 1 (pieces 10 text)) refl h
 -- each path leads to a file that is not a directory exactly if its line makes none
 pub targets : (ls : List Line) → AreChecked ls → (q : List ℕ) → is_target (led ls q) ≡ is_no_directory (line_at ls q)
 targets [] k q = refl
-targets (l ∷ ls) k q = more_targets ls l k.0 (targets ls k.1) q
+targets (l ∷ ls) k q = more_targets ls l (sound_target ls l k.0) (targets ls k.1) q
 
 -- what a line without a fault has
 pub sound_place : (ls : List Line) (l : Line) → fault_of ls l ≡ None

@@ -11,3 +11,8 @@ mod Fitting
 mod Joined
 mod Decimals
 mod ReadBack
+mod Behind
+mod FirstFault
+mod Passing
+mod Tried
+mod AllTold

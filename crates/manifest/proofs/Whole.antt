@@ -7,7 +7,7 @@ use Rattle.manifest.specs.Texts.{pieces, pieces_after}
 use Rattle.manifest.specs.Grammar.{manifest_of, read_lines, nothing_read, as_manifest}
 use Rattle.manifest.specs.Reading.{seen}
 
-nothing_left : (o : Option (Bor (List ℕ))) → ((x : Bor (List ℕ)) → o ≡ Some x → ⊥) → o ≡ None
+pub nothing_left : (o : Option (Bor (List ℕ))) → ((x : Bor (List ℕ)) → o ≡ Some x → ⊥) → o ≡ None
 nothing_left None h = refl
 nothing_left (Some x) h = absurd (h x refl)
 

@@ -9,3 +9,6 @@ pub mod Reading
 pub mod Seeds
 pub mod Printed
 pub mod Entries
+pub mod Alone
+pub mod Faults
+pub mod Going

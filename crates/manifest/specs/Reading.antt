@@ -1,5 +1,6 @@
 -- `Gives`: an answer is the grammar's, if memory was not refused. `seen`, `seed_in`, `IsKept`,
--- `Adds`, `Reads`: the values that the reader keeps between two lines, in the words of the grammar.
+-- `Adds`, `Reads`, `OnBad`: the values that the reader keeps between two lines, in the words of the
+-- grammar.
 -- (This project's own.)
 use Rattle.std.specs.Prelude.{◌≡◌, ℕ, ◌||◌, Bool, true, false, if◌then◌else◌, List, ◌∷◌, reverse}
 use Rattle.std.specs.Prelude.{Option, Some, None, Result, Ok, Err, Vec}
@@ -104,3 +105,9 @@ pub record Adds (old new : Reader) (l : Line) : Type 0 where
 abbrev pub Reads : Reader → Result Unit ManifestError → Result Seen Fault → Type 0
 Reads new (Ok _) read = (read ≡ Ok (seen new)) × IsKept new
 Reads new (Err e) read = Fails e read
+
+-- what holds after a bad line
+abbrev pub OnBad : Result Unit ManifestError → Type 0 → Type 0
+OnBad (Ok _) P = Unit {0}
+OnBad (Err error.OutOfMemory) P = Unit {0}
+OnBad (Err (error.Bad line number)) P = P

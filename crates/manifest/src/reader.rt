@@ -3,7 +3,7 @@ ghost use Rattle.std.specs.Prelude.{◌≡◌, ◌++◌, ◌∷◌, [], true, is
 ghost use Rattle.std.specs.Hash.DefaultHasher.{initial, write};
 ghost use Rattle.manifest.specs.Grammar as grammar;
 ghost use Rattle.manifest.specs.Paths.{names_of, parent_of};
-ghost use Rattle.manifest.specs.Reading.{Adds, HasMore, IsKept, Reads, seen, seed_in};
+ghost use Rattle.manifest.specs.Reading.{Adds, HasMore, IsKept, OnBad, Reads, seen, seed_in};
 ghost use Rattle.manifest.specs.Reading.{reached, reached_by, has_contents};
 ghost use Rattle.manifest.specs.Reading.{to_directory, to_regular_file, to_no_directory};
 ghost use Rattle.manifest.specs.Lines.{sources_of};
@@ -49,14 +49,14 @@ pub struct Reader {
 }
 
 /// Returns whether an alignment is a power of two from 4 to 65,536.
-fn is_align(align: u32) -> bool
+pub fn is_align(align: u32) -> bool
     ensures { result ≡ grammar.is_align align }
 {
     ALIGNMENTS.iter().any(|allowed| align == *allowed)
 }
 
 /// Returns whether a line's text is invalid for its word.
-fn is_bad_text(line: &Line) -> bool
+pub fn is_bad_text(line: &Line) -> bool
     ensures { result ≡ grammar.is_bad_text line.now.word line.now.text }
 {
     let text = line.text.as_bytes();
@@ -89,7 +89,7 @@ fn is_no_directory(reached: Option<Reached>) -> bool
 }
 
 /// Returns a fault as an error.
-fn bad(line: u64, number: u32) -> ManifestError
+pub fn bad(line: u64, number: u32) -> ManifestError
     ensures { result ≡ Bad line number }
 {
     ManifestError::Bad { line, number }
@@ -139,7 +139,7 @@ impl Reader {
     }
 
     /// Returns the kind of file to which the path of an earlier line leads, if a line has the path.
-    fn reached(&self, path: &[u8]) -> Option<Reached>
+    pub fn reached(&self, path: &[u8]) -> Option<Reached>
         requires { IsKept self.now }
         ensures { result ≡ reached (reverse self.now.lines.items) path.now }
     {
@@ -229,10 +229,11 @@ impl Reader {
         }
     }
 
-    /// Adds a line that has no fault.
-    fn add(&mut self, alloc: Global, line: Line) -> Result<(), OutOfMemory>
+    /// Adds a line. What it names has to be made by the lines before it.
+    pub fn add(&mut self, alloc: Global, line: Line) -> Result<(), OutOfMemory>
         requires kept { IsKept self.old }
-        requires sound { grammar.fault_of (reverse self.old.lines.items) line ≡ None }
+        requires leads { grammar.has_target
+            (reverse self.old.lines.items) line.word line.text ≡ true }
         ensures { OnOk result (Adds self.old self.new line) }
     {
         let reached = self.leads_to(&line);
@@ -245,7 +246,8 @@ impl Reader {
     /// Reads the name of the volume.
     fn read_volume(&mut self, number: u64, name: Name) -> Result<(), ManifestError>
         requires { IsKept self.old }
-        ensures { Reads self.new result (grammar.read_volume (seen self.old) number name) }
+        ensures reads { Reads self.new result (grammar.read_volume (seen self.old) number name) }
+        ensures unchanged { OnBad result (self.new ≡ self.old) }
     {
         if is_bad(name.as_bytes(), NAME_MAX) {
             return Err(bad(number, BAD_PATH));
@@ -259,6 +261,7 @@ impl Reader {
     }
 
     /// Reads a line of these fields.
+    #[tactic(auto, using(crate::proofs::Adding::sound_target))]
     fn read_fields(
         &mut self,
         alloc: Global,
@@ -266,9 +269,10 @@ impl Reader {
         fields: &Fields,
     ) -> Result<(), ManifestError>
         requires { IsKept self.old }
-        ensures { Reads self.new result
+        ensures reads { Reads self.new result
             (grammar.read_numbers (seen self.old) number
             (grammar.line_of number (fields_view fields.now))) }
+        ensures unchanged { OnBad result (self.new ≡ self.old) }
     {
         let Some(line) = line_of(alloc, number, fields)? else {
             return Err(bad(number, BAD_NUMBER));
@@ -280,11 +284,12 @@ impl Reader {
         Ok(())
     }
 
-    /// Reads a line that is not skipped.
+    /// Reads a line that is not skipped. A bad line changes nothing.
     #[tactic(auto, unfolding(crate::specs::Grammar::read))]
     pub fn read(&mut self, alloc: Global, number: u64, line: &[u8]) -> Result<(), ManifestError>
         requires { IsKept self.old }
-        ensures { Reads self.new result (grammar.read (seen self.old) number line.now) }
+        ensures reads { Reads self.new result (grammar.read (seen self.old) number line.now) }
+        ensures unchanged { OnBad result (self.new ≡ self.old) }
     {
         let Some(texts) = fields::split(line) else {
             return Err(bad(number, BAD_WORD));

@@ -1,5 +1,6 @@
 pub mod Sums
 pub mod Linux
+pub mod Dynamic
 pub mod Fronts
 pub mod Mapped
 pub mod Regular

@@ -12,7 +12,7 @@ use Rattle.elf_format.specs.declared.header.Header.{Header}
 use Rattle.elf_format.specs.declared.program.Program.{Program}
 use Rattle.program_pages.specs.declared.counting.ProgramPages.{ProgramPages}
 use Rattle.program_pages.specs.declared.counting.NoProgram.TheVariants.{Unloadable}
-use Rattle.program_pages.specs.Counted.{all_load, flash_at, is_refused, pages_by, pages_of, pages_sum, plus}
+use Rattle.program_pages.specs.Counted.{all_load, flash_at, is_linked, is_refused, pages_by, pages_of, pages_sum, plus}
 use Rattle.program_pages.specs.Counted.{segment_pages}
 
 -- a program header that does not load is one of the first n
@@ -42,12 +42,12 @@ some_then false s m e = (refl, grind arith)
 
 pub sums_more : (f : Flash) (no_mmu : Bool) (start size : ℕ) (b : List ℕ) (h : Header) (n : ℕ)
     (so_far more all : ProgramPages) (p : Program) → all ≡ plus so_far more → p ≡ program_at b h n
-    → more ≡ segment_pages f no_mmu start size p → so_far ≡ pages_sum f no_mmu start size b h n
+    → more ≡ segment_pages f no_mmu start size (is_linked no_mmu b h) p → so_far ≡ pages_sum f no_mmu start size b h n
     → all ≡ pages_sum f no_mmu start size b h (n + 1)
 sums_more f no_mmu start size b h n so_far more all p a e m s =
     let k : n + 1 ≡ suc n = omega arith in
-    let z : more ≡ segment_pages f no_mmu start size (program_at b h n) =
-    m ∙ ap (λ (q : Program). segment_pages f no_mmu start size q) e in
+    let z : more ≡ segment_pages f no_mmu start size (is_linked no_mmu b h) (program_at b h n) =
+    m ∙ ap (λ (q : Program). segment_pages f no_mmu start size (is_linked no_mmu b h) q) e in
     a ∙ rw (k, s, z) refl
 
 pub load_more : (size : ℕ) (b : List ℕ) (h : Header) (n : ℕ) (p : Program) → p ≡ program_at b h n

@@ -1,7 +1,10 @@
 //! The pages of a program.
 ghost use Rattle.std.specs.Prelude.{◌≡◌, ◌+◌, ◌≤◌, ◌<◌, ◌^◌, length, IfSome, IfOk};
 ghost use Rattle.rom_fields.specs.Words.{part_of};
-ghost use Rattle.program_pages.specs.Counted.{flash_at, pages_of, placed_in, plus, segment_of};
+ghost use Rattle.elf_format.specs.Header.{IsHeader};
+ghost use Rattle.program_pages.specs.Counted.{dynamic_among, flash_at, is_dynamic, is_linked};
+ghost use Rattle.program_pages.specs.Counted.{is_zeroed, kept, pages_of, placed_in, plus};
+ghost use Rattle.program_pages.specs.Counted.{segment_of};
 
 use crate::mapping::{Mapping, pages_in_place};
 use elf_format::{ElfError, Header, Loading, Program};
@@ -14,7 +17,7 @@ pub struct ProgramPages {
     pub in_place: u64,
     /// The pages that are read into memory when they are used.
     pub copied: u64,
-    /// The pages that cannot be written, among both of them.
+    /// The pages that are not written, among both of them.
     pub fixed: u64,
     /// The pages of zeros only, which are not in the file.
     pub zero: u64,
@@ -82,19 +85,73 @@ fn placed(
     pages_in_place(flash, address, start, size, mapping)
 }
 
+/// Returns whether a program header leads to what the dynamic linker reads.
+fn is_dynamic(program: &Program) -> bool
+    ensures { result ≡ is_dynamic program.now }
+{
+    program.kind == 2 && program.file_size > 0
+}
+
+/// Returns whether a file has such a program header.
+fn has_dynamic(b: &[u8], header: &Header) -> bool
+    requires { IsHeader b.now header.now }
+    ensures { result ≡ dynamic_among b.now header.now header.now.count }
+{
+    for number in 0..header.count {
+        let program = header.program(b, number);
+        if is_dynamic(&program) {
+            return true;
+        }
+    }
+    false
+}
+
+/// Returns whether the dynamic linker loads a file with this header, and may write into its pages.
+fn is_linked(no_mmu: bool, b: &[u8], header: &Header) -> bool
+    requires { IsHeader b.now header.now }
+    ensures { result ≡ is_linked no_mmu b.now header.now }
+{
+    !no_mmu && header.kind == 3 && has_dynamic(b, header)
+}
+
+/// Returns whether the dynamic linker writes zeros into the last page of a segment, behind the
+/// bytes of the file.
+fn is_zeroed(linked: bool, program: &Program) -> bool
+    ensures { result ≡ is_zeroed linked program.now }
+{
+    linked
+        && program.file_size < program.memory_size
+        && (program.address % 4_096 + program.file_size % 4_096) % 4_096 != 0
+}
+
+/// Returns how many of the first `placed` of `count` pages stay in place, if the last one of them
+/// all is written or not.
+fn kept(zeroed: bool, count: u64, placed: u64) -> u64
+    ensures is { result ≡ kept zeroed count placed }
+    ensures few { result ≤ placed }
+{
+    if zeroed {
+        placed.min(count.saturating_sub(1))
+    } else {
+        placed
+    }
+}
+
 /// Returns the pages of a program header of the file of `size` bytes from `start` on, or `None` if
-/// Linux does not load it.
+/// Linux does not load it. The dynamic linker loads the file, or does not.
 fn segment(
     flash: &[u8],
     address: u64,
     no_mmu: bool,
     start: usize,
     size: usize,
+    linked: bool,
     program: &Program,
 ) -> Option<ProgramPages>
     requires start { start < 2 ^ 48 }
     requires size { size < 2 ^ 48 }
-    ensures is { result ≡ segment_of (flash_at flash.now address) no_mmu start size program.now }
+    ensures is { result
+        ≡ segment_of (flash_at flash.now address) no_mmu start size linked program.now }
     ensures in_place { IfSome result (λ s. s.in_place ≤ 2 ^ 40) }
     ensures copied { IfSome result (λ s. s.copied ≤ 2 ^ 40) }
     ensures fixed { IfSome result (λ s. s.fixed ≤ 2 ^ 40) }
@@ -121,11 +178,17 @@ fn segment(
                 count,
                 writable,
             };
-            let in_place = placed(flash, address, no_mmu, start, size, &mapping);
+            let zeroed = is_zeroed(linked, program);
+            let placed = placed(flash, address, no_mmu, start, size, &mapping);
+            let in_place = kept(zeroed, count, placed);
             Some(ProgramPages {
                 in_place,
                 copied: count - in_place,
-                fixed: if writable { 0 } else { count },
+                fixed: if writable {
+                    0
+                } else {
+                    kept(zeroed, count, count)
+                },
                 zero,
                 used: program.offset + program.file_size,
             })
@@ -146,7 +209,8 @@ fn file_in<'a>(flash: &'a [u8], start: usize, size: usize) -> &'a [u8]
 
 /// Counts the pages of the program whose file has `size` bytes from `start` on. `flash` are the
 /// bytes of the flash from the image on, and `address` is where they begin. Without an MMU all
-/// pages that cannot be written are in place.
+/// pages that cannot be written are in place. With one, the dynamic linker may write zeros into the
+/// last page of a segment of a library that cannot be written: this page is copied.
 ///
 /// # Errors
 ///
@@ -172,10 +236,11 @@ pub fn program_pages(
         Err(ElfError::NotElf) => return Err(NoProgram::NotElf),
         Err(ElfError::Table) => return Err(NoProgram::BadTable),
     };
+    let linked = is_linked(no_mmu, b, &header);
     let mut pages = ProgramPages::NONE;
     for index in 0..header.count {
         let program = header.program(b, index);
-        let Some(more) = segment(flash, address, no_mmu, start, size, &program) else {
+        let Some(more) = segment(flash, address, no_mmu, start, size, linked, &program) else {
             return Err(NoProgram::Unloadable);
         };
         pages = pages.plus(&more);

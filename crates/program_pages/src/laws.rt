@@ -13,7 +13,8 @@ ghost use Rattle.program_pages.specs.declared.mapping.Mapping.{Mapping};
 ghost use Rattle.rom_tree.specs.Tree.{IsIn, Node, ino_of, is_regular, nodes, places_of, row_from};
 
 /// Shows that the counted pages of a program in a cramfs image are those that Linux maps to the
-/// flash, if the file's bytes are in one run.
+/// flash, without those that the dynamic linker fills with zeros, if the file's bytes are in one
+/// run.
 pub fn counted_is_mapped()
     ensures { (o : Order) (bytes rest : List ℕ) (most deepest start : ℕ) (t x : Node) (f : Flash)
         (b : List ℕ) (h : Header) (n : ℕ) → CramfsTree o bytes most deepest t

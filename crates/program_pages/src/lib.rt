@@ -3,7 +3,8 @@
 //!
 //! Proved: the counts are those of `specs/Counted.antt`, over the program headers of the file. A
 //! file that is no program, or one with a segment that Linux does not load, is told apart. The
-//! pages in place are those that Linux maps to the flash (`laws::counted_is_mapped`).
+//! pages in place are those that Linux maps to the flash, without those that the dynamic linker
+//! fills with zeros (`laws::counted_is_mapped`).
 //!
 //! Of a file in one run of a cramfs image, `pages_in_place` counts the pages that Linux maps
 //! (`laws::run_is_mapped`; Linux's rule is `specs/Physmem.antt`). If the run begins with a page of

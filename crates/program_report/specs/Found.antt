@@ -22,7 +22,7 @@ use Rattle.program_report.specs.declared.question.Question.{Question}
 use Rattle.program_report.specs.declared.finding.Found.{Found}
 use Rattle.program_report.specs.declared.finding.Reason.TheVariants.{Unaligned, Scattered}
 use Rattle.program_report.specs.declared.finding.Reason.TheVariants.{Unloadable, Table, Romfs}
-use Rattle.program_report.specs.declared.finding.Reason.TheVariants.{TextRelocations}
+use Rattle.program_report.specs.declared.finding.Reason.TheVariants.{TextRelocations, Writable}
 use Rattle.program_report.specs.declared.finding.Verdict.{Verdict}
 use Rattle.program_report.specs.declared.finding.Verdict.TheVariants.{InPlace, Not}
 
@@ -39,15 +39,20 @@ abbrev pub is_romfs : AnyImage → Bool
 is_romfs (any.Romfs s) = true
 is_romfs (any.Cramfs s) = false
 
+-- the verdict on a program of which each page is written: none of its pages can be in place. One of
+-- which no page is loaded is no such program.
+abbrev pub written : ProgramPages → Verdict
+written p = if p.in_place + p.copied == 0 then InPlace p else Not Writable (p.in_place + p.copied)
+
 -- the verdict on a program with these pages, from `start` on. Without an MMU all its pages that
--- cannot be written are in place. If it has none of them, none could be. With an MMU Linux maps
--- nothing of romfs, and of cramfs what begins with a page of the flash.
+-- cannot be written are in place. With an MMU Linux maps nothing of romfs, and of cramfs what
+-- begins with a page of the flash.
 abbrev pub placed : Bool → Question → ℕ → ProgramPages → Verdict
 placed romfs q start p =
-    if q.no_mmu || (p.fixed == 0) then InPlace p
+    if p.fixed == 0 then written p else (if q.no_mmu then InPlace p
     else (if romfs then Not Romfs (p.in_place + p.copied)
     else (if (q.base + start) % 4096 == 0 then InPlace p
-    else Not Unaligned (p.in_place + p.copied)))
+    else Not Unaligned (p.in_place + p.copied))))
 
 -- the pages of a program that is in place are few
 abbrev pub IsSmall : Verdict → Type 0
@@ -67,7 +72,8 @@ page_count size = (size + 4095) / 4096
 abbrev pub found : ℕ → ℕ → Verdict → Found
 found start size v = record { start = start; size = size; verdict = v }
 
--- the verdict, if the dynamic linker writes into the text or does not: then the text is copied
+-- The verdict, if the dynamic linker writes into the text or does not. Of the text it copies the
+-- pages that it writes, which are not counted here: all pages are the most that are copied.
 abbrev pub unless_moved : Bool → Verdict → Verdict
 unless_moved moved (Not reason pages) = Not reason pages
 unless_moved moved (InPlace p) =

@@ -17,7 +17,7 @@ use Rattle.program_report.specs.declared.finding.Found.{Found}
 use Rattle.program_report.specs.declared.finding.Reason.{Reason}
 use Rattle.program_report.specs.declared.finding.Reason.TheVariants.{Unaligned, Scattered}
 use Rattle.program_report.specs.declared.finding.Reason.TheVariants.{Unloadable, Table, Romfs}
-use Rattle.program_report.specs.declared.finding.Reason.TheVariants.{TextRelocations}
+use Rattle.program_report.specs.declared.finding.Reason.TheVariants.{TextRelocations, Writable}
 use Rattle.program_report.specs.declared.finding.Verdict.{Verdict}
 use Rattle.program_report.specs.declared.finding.Verdict.TheVariants.{InPlace, Not}
 use Rattle.program_report.specs.declared.tally.Tally.{Tally}
@@ -30,6 +30,7 @@ reason_word Unloadable = codes "unloadable"
 reason_word Table = codes "table"
 reason_word Romfs = codes "romfs"
 reason_word TextRelocations = codes "textrel"
+reason_word Writable = codes "writable"
 
 -- a word, a path, an address and numbers, with spaces between them, and a line feed
 abbrev pub spaced : List (List ℕ) → List ℕ
@@ -50,7 +51,7 @@ verdict_line path address (InPlace p) =
 verdict_line path address (Not reason pages) =
     line_of (codes "not ") path address (reason_word reason ∷ decimal pages ∷ [])
 
--- a page that cannot be written is not in place, though the program is: the file's last page has
+-- a page that is not written is not in place, though the program is: the file's last page has
 -- other data as well
 abbrev pub is_shared : Verdict → Bool
 is_shared (InPlace p) = nat_lt p.in_place p.fixed

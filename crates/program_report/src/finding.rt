@@ -7,7 +7,7 @@ ghost use Rattle.image_check.specs.Any.{any_view};
 ghost use Rattle.program_report.specs.Found.{flat_verdict, found_at, found_in, is_found};
 ghost use Rattle.program_report.specs.Found.{is_program, is_romfs, judged, run_verdict};
 ghost use Rattle.program_report.specs.Found.{IsSmall, page_count, placed, unless_moved};
-ghost use Rattle.program_report.specs.Found.{verdict_at, verdict_in};
+ghost use Rattle.program_report.specs.Found.{verdict_at, verdict_in, written};
 ghost use Rattle.program_report.specs.Lines.{is_shared};
 
 use crate::question::Question;
@@ -17,7 +17,7 @@ use program_pages::{NoProgram, ProgramPages, flat_pages, is_flat, program_pages}
 use rom_fields::part;
 use rom_tree::{NodeId, TreeImage, is_regular_at, longest_run};
 
-/// Why nothing of a program is executed in place.
+/// Why a program is not executed in place.
 #[derive(Clone, Copy, Debug, PartialEq, Eq)]
 pub enum Reason {
     /// Its first byte is not at the front of a page.
@@ -30,20 +30,22 @@ pub enum Reason {
     Table,
     /// Linux with an MMU maps no page of romfs.
     Romfs,
-    /// The dynamic linker writes into its text.
+    /// The dynamic linker writes into its text, so some of its pages are copied.
     TextRelocations,
+    /// Each page of it can be written, or is written by the dynamic linker.
+    Writable,
 }
 
 /// Whether a program is executed in place.
 #[derive(Clone, Copy, Debug, PartialEq, Eq)]
 pub enum Verdict {
-    /// It is, or no page of it could be.
+    /// It is, or no page of it is loaded.
     InPlace(ProgramPages),
-    /// Nothing of it is.
+    /// Nothing of it is; or, if it has text relocations, not all that could be.
     Not {
         /// Why.
         reason: Reason,
-        /// The number of pages that are copied.
+        /// The number of pages that are copied; with text relocations, the most that are.
         pages: u64,
     },
 }
@@ -87,13 +89,32 @@ fn is_romfs(image: &AnyImage<'_>) -> bool
     }
 }
 
+/// Returns the verdict on a program of which each page is written.
+fn written(pages: ProgramPages) -> Verdict
+    requires { pages.in_place + pages.copied < 2 ^ 64 }
+    ensures is { result ≡ written pages }
+    ensures small { IsSmall result }
+{
+    let copied = pages.in_place + pages.copied;
+    if copied == 0 {
+        return Verdict::InPlace(pages);
+    }
+    Verdict::Not {
+        reason: Reason::Writable,
+        pages: copied,
+    }
+}
+
 /// Returns the verdict on a program with these pages, from `start` on.
 fn placed(is_romfs: bool, question: &Question, start: u32, pages: ProgramPages) -> Verdict
     requires { pages.in_place + pages.copied < 2 ^ 64 }
     ensures is { result ≡ placed is_romfs question.now start pages }
     ensures small { IsSmall result }
 {
-    if question.no_mmu || pages.fixed == 0 {
+    if pages.fixed == 0 {
+        return written(pages);
+    }
+    if question.no_mmu {
         return Verdict::InPlace(pages);
     }
     let copied = pages.in_place + pages.copied;
@@ -276,7 +297,7 @@ pub(crate) fn found_in(image: &AnyImage<'_>, question: &Question, n: NodeId) -> 
     found_at(image, question, start, len, size)
 }
 
-/// Returns whether a page of a program that cannot be written is not in place, though the program
+/// Returns whether a page of a program that is not written is not in place, though the program
 /// is: the file's last page has other data as well.
 pub(crate) fn is_shared(found: &Found) -> bool
     ensures { result ≡ is_shared found.now.verdict }

@@ -68,6 +68,7 @@ impl Reason {
             Reason::Table => b"table",
             Reason::Romfs => b"romfs",
             Reason::TextRelocations => b"textrel",
+            Reason::Writable => b"writable",
         }
     }
 }

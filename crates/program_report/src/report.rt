@@ -69,11 +69,12 @@ fn finish<W: ByteWrite>(w: &mut W, tally: &Tally) -> Result<bool, Failed>
 /// with 4,096-byte pages. Returns `true` if there is a line `not` or `shared`. Directories may be
 /// 64 deep. The lines are:
 ///
-/// - `xip PATH ADDRESS IN-PLACE COPIED ZERO`: a program of which some page is in place, or none
-///   could be; the pages that Linux maps to the flash, those that it copies, and those of zeros
-///   only;
-/// - `not PATH ADDRESS REASON PAGES`: a program of which nothing is in place; REASON is
-///   `unaligned`, `scattered`, `unloadable`, `textrel`, `table` or `romfs`, and PAGES are copied;
+/// - `xip PATH ADDRESS IN-PLACE COPIED ZERO`: a program of which some page is in place, or only the
+///   shared last page is not, or no page is loaded; the pages that Linux maps to the flash, those
+///   that are copied, and those of zeros only;
+/// - `not PATH ADDRESS REASON PAGES`: a program of which nothing is in place, and PAGES are copied;
+///   REASON is `unaligned`, `scattered`, `unloadable`, `writable`, `table` or `romfs`; or it is
+///   `textrel`, and at most PAGES are copied;
 /// - `shared PATH ADDRESS N`: the program's last page has other data as well, and is copied; padded
 ///   to N bytes, the file has this page for itself;
 /// - `unused PATH N`, if advice is asked for: N bytes are behind the last segment, more than a

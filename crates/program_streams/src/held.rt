@@ -64,6 +64,13 @@ impl<X> Held<X> {
         }
     }
 
+    /// Returns the writer behind it.
+    pub fn behind(&self) -> &X
+        ensures { result.now ≡ held_inner self.now }
+    {
+        &self.inner
+    }
+
     /// Returns the writer behind it, and the bytes that were held back.
     pub fn into_parts(self) -> (X, Vec<u8>)
         ensures inner { result.0 ≡ held_inner self }

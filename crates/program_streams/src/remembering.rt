@@ -32,6 +32,13 @@ impl<X> Remembering<X> {
         Remembering { inner, error: None }
     }
 
+    /// Returns the writer behind it.
+    pub fn behind(&self) -> &X
+        ensures { result.now ≡ remembering_inner self.now }
+    {
+        &self.inner
+    }
+
     /// Returns the writer behind it, and the first error, if a call failed.
     pub fn into_parts(self) -> (X, Option<io::Error>)
         ensures inner { result.0 ≡ remembering_inner self }

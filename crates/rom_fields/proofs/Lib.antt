@@ -11,3 +11,5 @@ pub mod Determined
 pub mod Words
 pub mod Sealed
 pub mod Climbs
+pub mod Replaced
+pub mod Unknown

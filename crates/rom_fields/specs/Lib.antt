@@ -7,3 +7,4 @@ pub mod Extents
 pub mod Parts
 pub mod Padding
 pub mod Sums
+pub mod Rewritten

@@ -6,7 +6,9 @@
 //! words: Linux Documentation/filesystems/romfs.rst). Each text is written whole, or as a prefix if
 //! the writer failed. `laws`: each part can be read after it is laid, every other byte is zero, and
 //! the sums are 0. `specs/Parts.antt` lays parts one after the other, with zeros between them;
-//! `specs/Sums.antt` has the words that bring the sums of romfs to 0.
+//! `specs/Sums.antt` has the words that bring the sums of romfs to 0. A `Rewrite` is a writer that
+//! can replace bytes that it took (`specs/Rewritten.antt`), so a superblock with a checksum of all
+//! that follows it is written first and once more at the end; `Memory` is such a writer.
 #![tactic(auto)]
 
 mod bytes;
@@ -16,6 +18,8 @@ mod extents;
 mod faulty;
 pub mod laws;
 mod memory;
+mod memory_writer;
+mod rewrite;
 mod sink;
 mod span;
 mod text;
@@ -27,6 +31,8 @@ pub use contents::Contents;
 pub use extents::Extents;
 pub use faulty::Faulty;
 pub use memory::OutOfMemory;
+pub use memory_writer::Memory;
+pub use rewrite::Rewrite;
 pub use sink::{put, write_whole};
 pub use span::{Extent, Span, least_overlap, overlap};
 pub use text::{put_decimal, put_escaped, put_long_decimal, put_octal};

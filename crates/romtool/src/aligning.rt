@@ -1,12 +1,13 @@
 //! The alignments of the scanned files.
 use crate::patterns::Patterns;
 use crate::reporter::Reporter;
+use crate::watched::States;
 use build_commands::inventory::{FileKind, NamedFile, align_of};
 use elf_format::{HEAD_LEN, needs_pages};
 use program_streams::read_until;
 use rom_commands::{Ending, Status};
 use rom_fields::OutOfMemory;
-use sentences::reasons::REPLACED;
+use sentences::reasons::{REPLACED, SOURCE_UNREAD};
 use std::alloc::Global;
 use std::collections::BTreeMap;
 use std::fs::{self, File, Metadata, OpenFile};
@@ -15,6 +16,11 @@ use system_files::Identity;
 
 /// The number of bytes at the front of a file that show its format.
 const FORMAT_LEN: u64 = 4;
+
+/// Whether a file of these bytes is an ELF file.
+fn is_elf(bytes: &[u8]) -> bool {
+    bytes.starts_with(b"\x7fELF")
+}
 
 /// Alignments of files, by their devices and numbers.
 type Largest = BTreeMap<(u64, u64), u32>;
@@ -39,32 +45,75 @@ pub fn open_found(rt: &HostRuntime, found: &NamedFile) -> io::Result<File> {
     Err(io::Error::new(io::ErrorKind::NotFound, REPLACED))
 }
 
-/// Whether a file that was found is a program or a library that needs pages of its own to be
-/// executed in place. Of a file in another format only the first bytes are read.
-fn needs_pages_at(rt: &HostRuntime, found: &NamedFile) -> io::Result<bool> {
-    let mut file = open_found(rt, found)?;
-    let mut bytes = Vec::new(rt.alloc());
-    read_until(&mut file, &mut bytes, FORMAT_LEN, FORMAT_LEN)?;
-    if bytes.as_slice() == b"\x7fELF".as_slice() {
-        let length = file.metadata()?.len();
-        read_until(&mut file, &mut bytes, HEAD_LEN, length)?;
+/// Reads the first bytes of a file up to a length, or all of the file if it is shorter.
+///
+/// # Errors
+///
+/// The operating system's error; `UnexpectedEof` if there are fewer bytes than it reports.
+fn read_front(file: &mut File, bytes: &mut Vec<u8>, most: u64) -> io::Result<()> {
+    let length = file.metadata()?.len();
+    read_until(file, bytes, most, length)?;
+    if (bytes.len() as u64) < most.min(length) {
+        return Err(io::Error::new(io::ErrorKind::UnexpectedEof, SOURCE_UNREAD));
     }
-    Ok(needs_pages(&bytes))
+    Ok(())
 }
 
-/// The alignment of a regular file. The file is opened only if no pattern decides.
-fn align_at(
-    rt: &HostRuntime,
-    patterns: &Patterns,
-    align: u32,
-    file: &NamedFile,
-) -> io::Result<u32> {
-    let path = file.place.get(file.front..).unwrap_or("");
-    if let Some(align) = patterns.align(rt.alloc(), path.trim_start_matches('/'))? {
-        return Ok(align);
+/// The first bytes of a file that was found, which show whether it is a program. Of a file in
+/// another format these are only the bytes that show this.
+fn front_of(rt: &HostRuntime, found: &NamedFile) -> io::Result<Vec<u8>> {
+    let mut file = open_found(rt, found)?;
+    let mut bytes = Vec::new(rt.alloc());
+    read_front(&mut file, &mut bytes, FORMAT_LEN)?;
+    if is_elf(&bytes) {
+        read_front(&mut file, &mut bytes, HEAD_LEN)?;
     }
-    let is_asked = align != align_of(false, align);
-    Ok(align_of(is_asked && needs_pages_at(rt, file)?, align))
+    Ok(bytes)
+}
+
+/// How the alignments of files are found.
+#[derive(Clone, Copy)]
+pub struct AlignRules<'a> {
+    pub patterns: &'a Patterns,
+    /// The alignment of programs and libraries that match no pattern.
+    pub align: u32,
+}
+
+/// What a regular file is: its alignment, and whether it is an ELF file, if that was looked at.
+#[derive(Clone, Copy)]
+struct Looked {
+    align: u32,
+    is_elf: bool,
+}
+
+/// Looks at a regular file. It is opened only if no pattern decides, or programs are noted.
+fn looked_at(
+    rt: &HostRuntime,
+    rules: AlignRules<'_>,
+    file: &NamedFile,
+    notes_programs: bool,
+) -> io::Result<Looked> {
+    let path = file.place.get(file.front..).unwrap_or("");
+    let chosen = rules
+        .patterns
+        .align(rt.alloc(), path.trim_start_matches('/'))?;
+    let is_asked = chosen.is_none() && rules.align != align_of(false, rules.align);
+    if !is_asked && !notes_programs {
+        let align = chosen.unwrap_or(align_of(false, rules.align));
+        return Ok(Looked {
+            align,
+            is_elf: false,
+        });
+    }
+    let front = front_of(rt, file)?;
+    let align = match chosen {
+        Some(align) => align,
+        None => align_of(is_asked && needs_pages(&front), rules.align),
+    };
+    Ok(Looked {
+        align,
+        is_elf: is_elf(&front),
+    })
 }
 
 /// The largest alignment of each file with several links, by its device and number.
@@ -93,20 +142,25 @@ fn share(largest: &Largest, found: &mut [NamedFile]) {
     }
 }
 
-/// Sets the alignment of each regular file by its path and contents. Reports a file that
-/// cannot be read.
+/// Sets the alignment of each regular file by its path and contents, and notes which are ELF files
+/// if these are noted. Reports a file that cannot be read.
 fn align_each(
     reporter: &Reporter<'_>,
-    patterns: &Patterns,
-    align: u32,
+    rules: AlignRules<'_>,
     found: &mut [NamedFile],
+    states: &mut States,
 ) -> Result<(), Status> {
     for file in found {
-        if matches!(file.kind, FileKind::Regular) {
-            match align_at(reporter.rt, patterns, align, file) {
-                Ok(align) => file.align = align,
-                Err(e) => return Err(reporter.refused(file.place.as_bytes(), &e)),
-            }
+        if !matches!(file.kind, FileKind::Regular) {
+            continue;
+        }
+        let looked = match looked_at(reporter.rt, rules, file, states.notes_programs()) {
+            Ok(looked) => looked,
+            Err(e) => return Err(reporter.refused(file.place.as_bytes(), &e)),
+        };
+        file.align = looked.align;
+        if looked.is_elf {
+            states.note_program(&file.place);
         }
     }
     Ok(())
@@ -125,13 +179,14 @@ pub fn share_alignments(reporter: &Reporter<'_>, found: &mut [NamedFile]) -> Res
 
 /// Sets the alignment of each regular file: that of the last pattern that matches its path;
 /// otherwise this one if the file is a program or a library that is executed in place. A file with
-/// several names has the largest alignment of these names. Reports a file that cannot be read.
+/// several names has the largest alignment of these names. Notes which are ELF files, if these are
+/// noted. Reports a file that cannot be read.
 pub fn align_all(
     reporter: &Reporter<'_>,
-    patterns: &Patterns,
-    align: u32,
+    rules: AlignRules<'_>,
     found: &mut [NamedFile],
+    states: &mut States,
 ) -> Result<(), Status> {
-    align_each(reporter, patterns, align, found)?;
+    align_each(reporter, rules, found, states)?;
     share_alignments(reporter, found)
 }

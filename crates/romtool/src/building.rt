@@ -9,19 +9,20 @@ ghost use Rattle.manifest.specs.Grammar.{manifest_of};
 ghost use Rattle.manifest.specs.Lines.{sources_of};
 ghost use Rattle.plan_types.specs.Plans.{IsPlanOf};
 
+use crate::asked::Asked;
 use crate::files::{Files, INPUT, Kept, kept_names, kept_states, say_not_taken};
 use crate::foreseen::{Warnings, foreseen};
-use crate::in_place::{Unknown, first_unplaced};
+use crate::in_place::{Programs, Unknown, programs_of};
 use crate::origin::Origin;
 use crate::reading::TextFile;
 use crate::reporter::Reporter;
 use crate::scan_all::ScannedText;
 use crate::sources::{joined_names, names_of, sizes_of, stamps_of, texts_of};
 use crate::watched::Watched;
-use crate::{bad_lines, contents, depfile, explained, reading, warned};
+use crate::{contents, depfile, explained, reading, warned};
 use build_commands::{
-    Ended, Foreseen, Job, Misread, Rule, Tools, Unbuilt, most_bytes, print_bad_manifest,
-    print_misfit, print_size, print_strict, print_xip,
+    Ended, Fate, Foreseen, Job, Misread, Rule, Tools, Unbuilt, Wanted, most_bytes,
+    print_bad_manifest, print_misfit, print_size, print_strict, print_xip,
 };
 use command_line::Build;
 use image_build::Unwritten;
@@ -78,7 +79,7 @@ fn manifest_of(reporter: &Reporter<'_>, name: &str, text: &[u8]) -> Result<Manif
             let out = &mut Plain::new(Held::new(rt.alloc(), io::writer(rt)));
             let status = printed(reporter, print_bad_manifest(out, line, number));
             explained::bad_manifest(reporter, name, text, line, number);
-            bad_lines::explain_others(reporter, name, text, line);
+            explained::other_bad_lines(reporter, name, text);
             Err(status)
         }
     }
@@ -169,7 +170,7 @@ fn check_output(reporter: &Reporter<'_>, name: &str, inputs: Inputs<'_>) -> Resu
 /// Opens the target of an image. It is neither the manifest nor a source, nor standard output.
 fn target_of(
     reporter: &Reporter<'_>,
-    asked: Build<'_>,
+    asked: Asked<'_>,
     inputs: Inputs<'_>,
 ) -> Result<Target, Status> {
     let out = asked.out;
@@ -219,14 +220,14 @@ fn rule(files: Files<'_>) -> Rule<'_> {
             Some(asked.manifest)
         },
         sources: files.kept.names.get(..files.kept.in_rule).unwrap_or(&[]),
-        directories: files.origin.directories,
+        directories: files.origin.directories(),
     }
 }
 
 /// How often each source is read whole: once to be written, and once before for a checksum of all
-/// bytes.
-fn passes(format: Format) -> u64 {
-    if format.capacity().sums_all_bytes {
+/// bytes, if the superblock cannot be replaced at the end.
+fn passes(format: Format, target: &Target) -> u64 {
+    if format.capacity().sums_all_bytes && !target.is_part() {
         2
     } else {
         1
@@ -254,14 +255,18 @@ struct Prepared<'a> {
     ghost planned: { IsPlanOf plan.now.format files.origin.manifest.now plan.now.sizes plan.now },
     ghost count: { length plan.now.sizes ≡ length (sources_of files.origin.manifest.now.lines) },
     ghost sizes: { plan.now.sizes ≡ map (λ s. s.len) files.stamps.now },
-    ghost format: { plan.now.format ≡ format_of files.asked.format },
-    ghost within: { IsWithin (most_of files.asked) plan.now.image_len },
-    ghost strict: { files.asked.strict ≡ true → foreseen.misread ≡ None },
-    ghost in_place: { files.asked.xip ≡ true → foreseen.programs ≢ None },
+    ghost format: { plan.now.format ≡ format_of files.asked.wanted.format },
+    ghost within: { IsWithin (most_of files.asked.wanted) plan.now.image_len },
+    ghost strict: { files.asked.wanted.strict ≡ true → foreseen.misread ≡ None },
+    ghost in_place: { files.asked.wanted.xip ≡ true → foreseen.programs ≢ None },
 }
 
 /// Returns the job of an image, and the files of the system. Their reading is shown as progress.
-fn job_of<'a>(rt: &'a HostRuntime, prepared: Prepared<'a>) -> (Job<'a, Disk<'a>>, Disk<'a>) {
+fn job_of<'a>(
+    rt: &'a HostRuntime,
+    prepared: Prepared<'a>,
+    target: &Target,
+) -> (Job<'a, Disk<'a>>, Disk<'a>) {
     let Prepared {
         plan,
         files,
@@ -271,9 +276,9 @@ fn job_of<'a>(rt: &'a HostRuntime, prepared: Prepared<'a>) -> (Job<'a, Disk<'a>>
         .sizes()
         .iter()
         .fold(0, |sum: u64, size| sum.saturating_add(*size));
-    let progress = Progress::new(rt, bytes.saturating_mul(passes(plan.format())));
+    let progress = Progress::new(rt, bytes.saturating_mul(passes(plan.format(), target)));
     let job = Job {
-        asked: files.asked,
+        wanted: files.asked.wanted,
         text: files.origin.text,
         manifest: files.origin.manifest,
         names: files.names,
@@ -311,7 +316,7 @@ fn put_image(
 {
     let (rt, files) = (reporter.rt, prepared.files);
     let Destination { target, rule } = destination;
-    let (job, opener) = job_of(rt, prepared);
+    let (job, opener) = job_of(rt, prepared, &target);
     let tools = Tools {
         opener,
         last: Unchanged {
@@ -319,8 +324,13 @@ fn put_image(
             manifest: files.manifest_state(),
             names: files.kept.names,
             stamps: files.kept.states,
+            seen: None,
         },
-        companion: KeptWith { rt, target: rule },
+    };
+    let mut companion = KeptWith {
+        rt,
+        target: rule,
+        fate: Fate::Open,
     };
     let stdout = &mut Plain::new(Held::new(rt.alloc(), io::writer(rt)));
     let Ended {
@@ -328,9 +338,9 @@ fn put_image(
         last: _,
         unread,
         result,
-    } = target.build(rt, &job, tools, buffer, stdout);
+    } = target.build(rt, &job, tools, &mut companion, buffer, stdout);
     match result {
-        Ok(()) => Ok(()),
+        Ok(_) => Ok(()),
         Err(Unbuilt::NotMade(e)) => Err(say_unmade(reporter, files, e, unread)),
         Err(Unbuilt::NotKept(e)) => {
             Err(say_unkept(reporter, e, files.asked.depfile.unwrap_or("")))
@@ -373,11 +383,11 @@ fn write_image(
 }
 
 /// Refuses a plan whose image is longer than it may be.
-fn check_size(reporter: &Reporter<'_>, asked: Build<'_>, plan: &Plan) -> Result<(), Status>
-    ensures { OnOk result (IsWithin (most_of asked.entry) plan.now.image_len) }
+fn check_size(reporter: &Reporter<'_>, asked: Asked<'_>, plan: &Plan) -> Result<(), Status>
+    ensures { OnOk result (IsWithin (most_of asked.entry.wanted) plan.now.image_len) }
 {
     let len = plan.image_len() as u64;
-    match most_bytes(&asked) {
+    match most_bytes(&asked.wanted) {
         Some(most) if len > most => {
             let stdout = &mut Plain::new(Held::new(reporter.rt.alloc(), io::writer(reporter.rt)));
             let status = printed(reporter, print_size(stdout, len, most));
@@ -392,19 +402,19 @@ fn check_size(reporter: &Reporter<'_>, asked: Build<'_>, plan: &Plan) -> Result<
 /// refuses the image then.
 fn warnings_of<'m>(
     reporter: &Reporter<'_>,
-    asked: Build<'_>,
+    asked: Asked<'_>,
     origin: Origin<'m>,
     sizes: &[u64],
 ) -> Result<(Warnings<'m>, Option<Misread>), Status>
     requires { length sizes.now ≡ length (sources_of origin.manifest.now.lines) }
-    ensures { IfOk result (λ found. asked.entry.strict ≡ true → found.1 ≡ None) }
+    ensures { IfOk result (λ found. asked.entry.wanted.strict ≡ true → found.1 ≡ None) }
 {
     let alloc = reporter.rt.alloc();
-    let Ok(warnings) = foreseen(alloc, asked.format, origin.manifest, sizes) else {
+    let Ok(warnings) = foreseen(alloc, asked.wanted.format, origin.manifest, sizes) else {
         return Err(reporter.say(Ending::Memory));
     };
     match warnings.least() {
-        Some(Misread { line, number }) if asked.strict => {
+        Some(Misread { line, number }) if asked.wanted.strict => {
             let out = &mut Plain::new(Held::new(alloc, io::writer(reporter.rt)));
             let status = printed(reporter, print_strict(out, line, number));
             warned::explain(reporter, origin, &warnings, "");
@@ -414,33 +424,52 @@ fn warnings_of<'m>(
     }
 }
 
-/// Refuses a planned image in which Linux would not execute a program in place, if this is asked
-/// for. Returns the number of programs then.
-fn check_programs(
+/// Returns the programs of a planned image, if something is to be said of them: `--xip`, or the
+/// table of a scan that is explained.
+fn programs_in(
     reporter: &Reporter<'_>,
-    asked: Build<'_>,
+    asked: Asked<'_>,
     plan: &Plan,
     files: Files<'_>,
-) -> Result<Option<u64>, Status>
-    ensures { IfOk result (λ programs. asked.entry.xip ≡ true → programs ≢ None) }
+) -> Result<Option<Programs>, Status>
+    ensures { IfOk result (λ programs. asked.entry.wanted.xip ≡ true → programs ≢ None) }
 {
-    if !asked.xip {
+    let is_told = files.origin.scanned.is_some() && reporter.is_explained();
+    if !asked.wanted.xip && !is_told {
         return Ok(None);
     }
-    let rt = reporter.rt;
-    match first_unplaced(rt, plan, files.origin, files.names, files.stamps) {
-        Ok(found) => match found.unplaced {
-            None => Ok(Some(found.programs)),
-            Some(first) => {
-                let out = &mut Plain::new(Held::new(rt.alloc(), io::writer(rt)));
-                let word = first.reason.word();
-                let status = printed(reporter, print_xip(out, first.line, word, first.path));
-                warned::explain_unplaced(reporter, files.origin, first);
-                Err(status)
-            }
-        },
+    match programs_of(reporter.rt, plan, files.origin, files.names, files.stamps) {
+        Ok(programs) => Ok(Some(programs)),
         Err(Unknown::Memory) => Err(reporter.say(Ending::Memory)),
         Err(Unknown::Source(file, e)) => Err(files.say_fault(reporter, file, Some(e))),
+    }
+}
+
+/// Refuses a planned image with a program that Linux would not execute in place, if that is asked
+/// for. Returns the number of programs, if they were looked at.
+fn check_programs(
+    reporter: &Reporter<'_>,
+    asked: Asked<'_>,
+    origin: Origin<'_>,
+    programs: &Option<Programs>,
+) -> Result<Option<u64>, Status>
+    requires { asked.wanted.xip ≡ true → programs.now ≢ None }
+    ensures { IfOk result (λ programs. asked.entry.wanted.xip ≡ true → programs ≢ None) }
+{
+    let programs = match programs {
+        Some(programs) => programs,
+        None => return Ok(None),
+    };
+    match programs.unplaced.first() {
+        Some(first) if asked.wanted.xip => {
+            let rt = reporter.rt;
+            let out = &mut Plain::new(Held::new(rt.alloc(), io::writer(rt)));
+            let word = first.reason.word();
+            let status = printed(reporter, print_xip(out, first.line, word, &first.path));
+            warned::explain_unplaced(reporter, origin, first);
+            Err(status)
+        }
+        _ => Ok(Some(programs.count)),
     }
 }
 
@@ -467,14 +496,13 @@ fn write_files(reporter: &Reporter<'_>, prepared: Prepared<'_>) -> Result<(), St
     write_image(reporter, prepared, Destination { target, rule })
 }
 
-/// An image that was built: the status, and the numbers of bytes of the image and of each source.
+/// An image that was built: the numbers of bytes of the image and of each source.
 #[derive(Drop)]
 pub struct Built {
-    status: Status,
     pub len: u64,
     pub sizes: Vec<u64>,
-    /// How many programs it has, if that was looked at.
-    pub programs: Option<u64>,
+    /// Its programs, if they were looked at.
+    pub programs: Option<Programs>,
 }
 
 /// What was kept, if there was memory for it. Reports that there was none.
@@ -515,22 +543,22 @@ fn as_texts<'n>(reporter: &Reporter<'_>, names: &'n [String]) -> Result<Vec<&'n 
 /// Builds the image of a manifest, whose text is in this file, and whose sources have these names.
 fn build_from<'a>(
     reporter: &Reporter<'_>,
-    asked: Build<'_>,
+    asked: Asked<'_>,
     origin: Origin<'a>,
     names: &'a [&'a str],
     manifest: TextFile,
 ) -> Result<Built, Status>
-    requires { map (λ n. n.now) names.now ≡ opened_as (option_map (λ d. d.now) asked.sources)
+    requires { map (λ n. n.now) names.now ≡ opened_as (option_map (λ d. d.now) asked.wanted.sources)
         (sources_of origin.manifest.now.lines) }
 {
     let stamps = stamps_of(reporter, origin, names)?;
     let sizes = sizes_of(reporter, &stamps)?;
-    let plan = planned(reporter, asked.format, origin, &sizes)?;
+    let plan = planned(reporter, asked.wanted.format, origin, &sizes)?;
     check_size(reporter, asked, &plan)?;
     let (warnings, misread) = warnings_of(reporter, asked, origin, &sizes)?;
-    let (owned, states) = kept_files(reporter, names, &stamps, origin.watched)?;
+    let (owned, states) = kept_files(reporter, names, &stamps, origin.watched())?;
     let kept = as_texts(reporter, &owned)?;
-    let others = origin.watched.iter().filter(|file| !file.is_source);
+    let others = origin.watched().iter().filter(|file| !file.is_source);
     let kept = Kept {
         names: &kept,
         states: &states,
@@ -544,7 +572,8 @@ fn build_from<'a>(
         stamps: &stamps,
         kept,
     };
-    let programs = check_programs(reporter, asked, &plan, files)?;
+    let found = programs_in(reporter, asked, &plan, files)?;
+    let programs = check_programs(reporter, asked, origin, &found)?;
     let prepared = Prepared {
         plan: &plan,
         files,
@@ -553,10 +582,9 @@ fn build_from<'a>(
     write_files(reporter, prepared)?;
     warned::explain(reporter, origin, &warnings, "warning: ");
     Ok(Built {
-        status: Status::Done,
         len: plan.image_len() as u64,
         sizes,
-        programs,
+        programs: found,
     })
 }
 
@@ -569,30 +597,28 @@ struct Given<'a> {
     ghost says: { manifest_of text.now ≡ Ok manifest.now },
 }
 
-/// Builds the image of a manifest, whose sources are named as it names them, and were found in
-/// these directories if they were scanned, together with other files that were read.
+/// Builds the image of a manifest, whose sources are named as it names them, and were found by this
+/// scan if there was one.
 fn build_plain<'a>(
     reporter: &Reporter<'_>,
-    asked: Build<'a>,
+    asked: Asked<'a>,
     given: Given<'a>,
-    scanned: (&'a [String], &'a [Watched]),
+    scanned: Option<&'a ScannedText>,
 ) -> Result<Built, Status>
-    requires { asked.sources ≡ None }
+    requires { asked.wanted.sources ≡ None }
 {
     let Given {
         text,
         manifest,
         file,
     } = given;
-    let (directories, watched) = scanned;
     let origin = Origin {
         name: asked.manifest,
         text,
         manifest,
         joined: None,
         no_follow: asked.no_follow,
-        directories,
-        watched,
+        scanned,
     };
     let names = names_of(reporter, origin, manifest.sources())?;
     build_from(reporter, asked, origin, &names, file)
@@ -601,12 +627,12 @@ fn build_plain<'a>(
 /// Builds the image of a manifest, whose sources have these joined names.
 fn build_joined<'a>(
     reporter: &Reporter<'_>,
-    asked: Build<'a>,
+    asked: Asked<'a>,
     joined: &'a [Vec<u8>],
     given: Given<'a>,
-) -> Result<Built, Status>
-    requires { map (λ j. j.items) joined.now ≡ opened_as (option_map (λ d. d.now) asked.sources)
-        (sources_of given.manifest.now.lines) }
+) -> Result<(), Status>
+    requires { map (λ j. j.items) joined.now ≡ opened_as
+        (option_map (λ d. d.now) asked.wanted.sources) (sources_of given.manifest.now.lines) }
 {
     let Given {
         text,
@@ -619,28 +645,28 @@ fn build_joined<'a>(
         manifest,
         joined: Some(joined),
         no_follow: asked.no_follow,
-        directories: &[],
-        watched: &[],
+        scanned: None,
     };
     let names = texts_of(reporter, origin, joined)?;
-    build_from(reporter, asked, origin, &names, file)
+    build_from(reporter, asked, origin, &names, file)?;
+    Ok(())
 }
 
 /// Builds the image of a manifest, whose sources are in a directory.
 fn build_in(
     reporter: &Reporter<'_>,
-    asked: Build<'_>,
+    asked: Asked<'_>,
     directory: &str,
     given: Given<'_>,
-) -> Result<Built, Status>
-    requires { option_map (λ d. d.now) asked.sources ≡ Some directory.now }
+) -> Result<(), Status>
+    requires { option_map (λ d. d.now) asked.wanted.sources ≡ Some directory.now }
 {
     let joined = joined_names(reporter, directory, given.manifest.sources())?;
     build_joined(reporter, asked, &joined, given)
 }
 
 /// Builds what is asked for, and reports the result.
-fn build(reporter: &Reporter<'_>, asked: Build<'_>) -> Result<Status, Status> {
+fn build(reporter: &Reporter<'_>, asked: Asked<'_>) -> Result<Status, Status> {
     let text = text_of(reporter, asked.manifest)?;
     let manifest = manifest_of(reporter, asked.manifest, &text.bytes)?;
     let given = Given {
@@ -648,11 +674,13 @@ fn build(reporter: &Reporter<'_>, asked: Build<'_>) -> Result<Status, Status> {
         manifest: &manifest,
         file: text.file,
     };
-    let built = match asked.sources {
-        None => build_plain(reporter, asked, given, (&[], &[]))?,
+    match asked.wanted.sources {
+        None => {
+            build_plain(reporter, asked, given, None)?;
+        }
         Some(directory) => build_in(reporter, asked, directory, given)?,
-    };
-    Ok(built.status)
+    }
+    Ok(Status::Done)
 }
 
 /// Builds the image of directories that were scanned, and reports the result and what the image has
@@ -663,8 +691,12 @@ pub fn build_scanned(
     scanned: &ScannedText,
     file: Option<Identity>,
 ) -> Result<Status, Status> {
-    let asked = Build {
-        sources: None,
+    let asked = Asked::by(asked);
+    let asked = Asked {
+        wanted: Wanted {
+            sources: None,
+            ..asked.wanted
+        },
         ..asked
     };
     let manifest = manifest_of(reporter, asked.manifest, &scanned.text)?;
@@ -676,15 +708,14 @@ pub fn build_scanned(
             stamp: None,
         },
     };
-    let found = (scanned.directories.as_slice(), scanned.watched.as_slice());
-    let built = build_plain(reporter, asked, given, found)?;
+    let built = build_plain(reporter, asked, given, Some(scanned))?;
     contents::explain(reporter, asked, &manifest, &built);
-    Ok(built.status)
+    Ok(Status::Done)
 }
 
 /// Builds what is asked for, reports the result, and returns the status.
 pub fn run(reporter: &Reporter<'_>, asked: Build<'_>) -> Status {
-    match build(reporter, asked) {
+    match build(reporter, Asked::by(asked)) {
         Ok(status) => status,
         Err(status) => status,
     }

@@ -1,13 +1,15 @@
 //! The table of what an image has in it, for people.
+use crate::asked::Asked;
 use crate::building::Built;
+use crate::in_place::{Programs, Unplaced};
 use crate::reporter::Reporter;
+use crate::warned::reason_sentence;
 use build_commands::most_bytes;
-use command_line::Build;
 use manifest::{Line, Manifest, Word};
 use sentences::words::{escaped, shown};
 use std::alloc::{AllocError, Global};
 
-/// How many of the largest files are named.
+/// How many of the largest files, and of the programs that are not in place, are named.
 const LARGEST: usize = 5;
 
 /// How many lines of each kind a manifest has.
@@ -88,18 +90,43 @@ fn add_row(text: &mut String, alloc: Global, bytes: u64, what: &str) -> Result<(
     text.push_str(&format!(in alloc; "{bytes:>14}  {what}\n")?)
 }
 
-/// Adds what is executed in place of an image with this many programs.
-fn add_programs(text: &mut String, alloc: Global, programs: u64) -> Result<(), AllocError> {
-    let line = match programs {
-        0 => return text.push_str("no file is a program that is executed in place\n"),
-        1 => format!(in alloc;
-            "1 program is executed in place, except a last page that it shares\n"
-        )?,
-        _ => format!(in alloc;
-            "{programs} programs are executed in place, except last pages that they share\n"
-        )?,
-    };
-    text.push_str(&line)
+/// Adds which programs are not executed in place, and what helps.
+fn add_unplaced(text: &mut String, alloc: Global, unplaced: &[Unplaced]) -> Result<(), AllocError> {
+    for program in unplaced.iter().take(LARGEST) {
+        let (path, why) = (
+            shown(alloc, &program.path)?,
+            reason_sentence(program.reason),
+        );
+        text.push_str(&format!(in alloc; "not in place: {path}: {why}\n")?)?;
+    }
+    let more = unplaced.len().saturating_sub(LARGEST);
+    if more > 0 {
+        text.push_str(&format!(in alloc; "not in place: {more} more\n")?)?;
+    }
+    Ok(())
+}
+
+/// Adds what Linux would execute in place of an image with these programs.
+fn add_programs(text: &mut String, alloc: Global, programs: &Programs) -> Result<(), AllocError> {
+    let (count, not) = (programs.count, programs.unplaced.len() as u64);
+    if count == 0 {
+        return text.push_str("no file is a program that is executed in place\n");
+    }
+    let (placed, pages, copied) = (
+        count.saturating_sub(not),
+        programs.in_place,
+        programs.copied,
+    );
+    text.push_str(&format!(in alloc;
+        "programs executed in place: {placed} of {count}; pages in place: {pages}, copied: {copied}\n"
+    )?)?;
+    if programs.shared > 0 {
+        text.push_str(&format!(in alloc;
+            "programs with a last page that other data share, which is copied: {}\n",
+            programs.shared
+        )?)?;
+    }
+    add_unplaced(text, alloc, &programs.unplaced)
 }
 
 /// Adds the largest files.
@@ -123,11 +150,14 @@ fn add_largest(
 /// The table of an image that was built.
 fn table(
     alloc: Global,
-    asked: Build<'_>,
+    asked: Asked<'_>,
     manifest: &Manifest,
     built: &Built,
 ) -> Result<String, AllocError> {
-    let (out, format) = (escaped(alloc, asked.out.as_bytes())?, asked.format.name());
+    let (out, format) = (
+        escaped(alloc, asked.out.as_bytes())?,
+        asked.wanted.format.name(),
+    );
     let counts = Counts::of(manifest).row(alloc)?;
     let (len, sizes) = (built.len, built.sizes.as_slice());
     let contents = sizes
@@ -142,10 +172,12 @@ fn table(
         len.saturating_sub(contents),
         "names, tables and padding",
     )?;
-    if let Some(most) = most_bytes(&asked) {
+    if let Some(most) = most_bytes(&asked.wanted) {
         add_row(&mut text, alloc, most.saturating_sub(len), "free")?;
     }
-    if let Some(programs) = built.programs {
+    if let Some(programs) = &built.programs
+        && (programs.count > 0 || asked.wanted.xip)
+    {
         add_programs(&mut text, alloc, programs)?;
     }
     add_largest(&mut text, alloc, manifest, sizes)?;
@@ -153,7 +185,7 @@ fn table(
 }
 
 /// Explains by a table what an image of a manifest has in it.
-pub fn explain(reporter: &Reporter<'_>, asked: Build<'_>, manifest: &Manifest, built: &Built) {
+pub fn explain(reporter: &Reporter<'_>, asked: Asked<'_>, manifest: &Manifest, built: &Built) {
     if reporter.is_explained()
         && let Ok(text) = table(reporter.rt.alloc(), asked, manifest, built)
     {

@@ -26,7 +26,7 @@ fn write(
         target.put_back(writer);
         return Ok(());
     }
-    Err(match writer.into_inner().error() {
+    Err(match writer.error() {
         Some(e) => reporter.failed_by(name.as_bytes(), &e),
         None => reporter.failed(name.as_bytes(), &NOT_TAKEN),
     })

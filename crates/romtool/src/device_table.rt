@@ -7,14 +7,19 @@ use crate::reporter::Reporter;
 use crate::rights::Change;
 use build_commands::inventory::{FileKind, NamedFile};
 use manifest::error::{BAD_NUMBER, BAD_TARGET, BAD_WORD};
+use manifest::{Line, Word, own_fault};
 use rom_commands::{Ending, Status};
-use sentences::reasons::{TABLE_COUNT, TABLE_FILE, TABLE_LINE, TABLE_NUMBER, TABLE_TYPE};
-use sentences::words::escaped;
-use std::alloc::{AllocError, Global};
+use sentences::reasons::{
+    TABLE_COUNT, TABLE_FILE, TABLE_FILES, TABLE_LINE, TABLE_NUMBER, TABLE_TYPE,
+};
+use std::alloc::Global;
 use std::str;
 
 /// The most devices of one line.
 const MOST_DEVICES: u64 = 65_536;
+
+/// The most files that all lines make, and the most whose attributes they set.
+const MOST_FILES: usize = 1 << 20;
 
 /// The most that each of the other numbers may be: Linux has 20 bits for a minor number.
 const MOST_NUMBER: u64 = (1 << 20) - 1;
@@ -113,17 +118,37 @@ impl<'a> Row<'a> {
         })
     }
 
-    /// The file that a line of a manifest with this word makes, at a path. Some words are followed
-    /// by more than an owner.
-    fn file(&self, alloc: Global, words: (&str, &str), path: &str) -> Result<NamedFile, LineError> {
-        let (word, more) = words;
-        let (path, mode) = (
-            escaped(alloc, path.as_bytes())?,
-            self.mode.unwrap_or(USUAL_MODE),
-        );
-        let (uid, gid) = (self.uid, self.gid);
-        let line = format!(in alloc; "{word} {path} {mode:04o} {uid} {gid}{more}")?;
-        file_of(alloc, self.line, line.as_bytes())
+    /// The file that a line of a manifest with this word makes, at a path. A device has this minor
+    /// number.
+    fn file(
+        &self,
+        alloc: Global,
+        word: Word,
+        minor: u64,
+        path: &str,
+    ) -> Result<NamedFile, LineError> {
+        let (Ok(major), Ok(minor)) = (u32::try_from(self.major), u32::try_from(minor)) else {
+            return Err(LineError::Bad(BAD_NUMBER));
+        };
+        if path.is_empty() {
+            return Err(LineError::Bad(BAD_WORD));
+        }
+        let line = Line {
+            number: self.line,
+            word,
+            path: path.as_bytes().to_vec(alloc)?.into(),
+            mode: self.mode.unwrap_or(USUAL_MODE),
+            uid: self.uid,
+            gid: self.gid,
+            align: 0,
+            major,
+            minor,
+            text: Vec::new(alloc).into(),
+        };
+        match own_fault(&line) {
+            Some(fault) => Err(LineError::Bad(fault)),
+            None => file_of(alloc, &line),
+        }
     }
 }
 
@@ -155,10 +180,10 @@ fn add_directory(
                 .iter()
                 .any(|file| file.path() == path.as_bytes())
         {
-            listed.files.push(parent.file(alloc, ("dir", ""), path)?)?;
+            listed.files.push(parent.file(alloc, Word::Dir, 0, path)?)?;
         }
     }
-    listed.files.push(row.file(alloc, ("dir", ""), row.path)?)?;
+    listed.files.push(row.file(alloc, Word::Dir, 0, row.path)?)?;
     Ok(())
 }
 
@@ -201,6 +226,9 @@ fn add_below(
     let mut is_there = false;
     for file in found.iter().filter(|file| is_set_below(file, front)) {
         is_there = true;
+        if listed.changes.len() >= MOST_FILES {
+            return Err(LineError::Other(BAD_NUMBER, TABLE_FILES));
+        }
         if let Ok(path) = str::from_utf8(file.path()) {
             listed.changes.push(row.change(alloc, path)?)?;
         }
@@ -225,26 +253,26 @@ fn add_below(
 fn add_devices(
     alloc: Global,
     row: &Row<'_>,
-    word: &str,
+    word: Word,
     listed: &mut Listing,
 ) -> Result<(), LineError> {
-    let (major, kind) = (row.major, row.kind);
     if row.mode.is_none() {
         return Err(LineError::Other(BAD_NUMBER, TABLE_NUMBER));
     }
     if row.count < 2 {
-        let numbers = format!(in alloc; " {kind} {major} {}", row.minor)?;
-        let more = if word == "nod" { numbers.as_str() } else { "" };
-        listed.files.push(row.file(alloc, (word, more), row.path)?)?;
+        listed
+            .files
+            .push(row.file(alloc, word, row.minor, row.path)?)?;
         return Ok(());
+    }
+    if row.count > MOST_FILES.saturating_sub(listed.files.len()) as u64 {
+        return Err(LineError::Other(BAD_NUMBER, TABLE_FILES));
     }
     for step in 0..row.count {
         let name = row.start.saturating_add(step);
         let minor = row.minor.saturating_add(step.saturating_mul(row.increment));
-        let numbers = format!(in alloc; " {kind} {major} {minor}")?;
-        let more = if word == "nod" { numbers.as_str() } else { "" };
         let path = format!(in alloc; "{}{name}", row.path)?;
-        listed.files.push(row.file(alloc, (word, more), &path)?)?;
+        listed.files.push(row.file(alloc, word, minor, &path)?)?;
     }
     Ok(())
 }
@@ -260,8 +288,9 @@ fn add_row(
         "f" | "F" => add_change(alloc, row, found, listed)?,
         "d" => add_directory(alloc, row, found, listed)?,
         "r" => add_below(alloc, row, found, listed)?,
-        "c" | "b" => add_devices(alloc, row, "nod", listed)?,
-        "p" => add_devices(alloc, row, "pipe", listed)?,
+        "c" => add_devices(alloc, row, Word::Character, listed)?,
+        "b" => add_devices(alloc, row, Word::Block, listed)?,
+        "p" => add_devices(alloc, row, Word::Fifo, listed)?,
         _ => return Err(LineError::Other(BAD_WORD, TABLE_TYPE)),
     }
     Ok(())

@@ -9,8 +9,7 @@ use crate::{explained, reading};
 use build_commands::inventory::{Device, FileKind, Inode, NamedFile};
 use build_commands::print_bad_manifest;
 use manifest::error::{BAD_WORD, EXISTS, NO_PARENT};
-use manifest::{Entry, Line, ManifestError, Word, parse, write_line};
-use percent_encoding::percent_decode;
+use manifest::{Line, ManifestError, Word, read_line};
 use program_streams::Held;
 use rom_commands::{Ending, Status};
 use rom_fields::Plain;
@@ -24,9 +23,6 @@ const NOWHERE: u64 = u64::MAX;
 
 /// The alignment of a file without bytes.
 const NO_ALIGN: u32 = 4;
-
-/// The most bytes of a path.
-const MOST_OF_PATH: usize = 4095;
 
 /// The words of the lines that such a file may have.
 const WORDS: [&[u8]; 5] = [b"dir", b"slink", b"nod", b"pipe", b"sock"];
@@ -73,47 +69,6 @@ fn field(line: &[u8], number: usize) -> &[u8] {
     line.split(|b| *b == b' ').nth(number).unwrap_or(b"")
 }
 
-/// Puts the line of a directory after other lines.
-fn put_directory(text: &mut Vec<u8>, path: &[u8]) -> Result<(), LineError> {
-    let entry = Entry {
-        word: Word::Dir,
-        path,
-        mode: 0,
-        uid: 0,
-        gid: 0,
-        align: 0,
-        major: 0,
-        minor: 0,
-        text: b"",
-    };
-    match write_line(&mut Plain::new(text), &entry) {
-        Ok(()) => Ok(()),
-        Err(_) => Err(LineError::OutOfMemory),
-    }
-}
-
-/// The path of a line, cut to the most bytes that a path may have.
-fn path_of(alloc: Global, line: &[u8]) -> Result<Vec<u8>, LineError> {
-    let mut path = Vec::new(alloc);
-    for b in percent_decode(field(line, 1)).take(MOST_OF_PATH) {
-        path.push(b)?;
-    }
-    Ok(path)
-}
-
-/// A manifest with this line, after lines of the directories that it is in.
-fn with_parents(alloc: Global, line: &[u8]) -> Result<Vec<u8>, LineError> {
-    let path = path_of(alloc, line)?;
-    let mut text = Vec::new(alloc);
-    for (i, b) in path.iter().enumerate() {
-        if *b == b'/' && i > 0 {
-            put_directory(&mut text, path.get(..i).unwrap_or(&[]))?;
-        }
-    }
-    text.extend_from_slice(line)?;
-    Ok(text)
-}
-
 /// Returns a text, which has to be UTF-8.
 fn text_of(alloc: Global, bytes: &[u8]) -> Result<String, LineError> {
     match str::from_utf8(bytes) {
@@ -157,7 +112,7 @@ impl Listing {
         if field(line, 0) == MODE {
             self.changes.push(change_of(alloc, number, line)?)?;
         } else {
-            self.files.push(file_of(alloc, number, line)?)?;
+            self.files.push(file_in(alloc, number, line)?)?;
         }
         Ok(())
     }
@@ -168,7 +123,7 @@ fn change_of(alloc: Global, number: u64, line: &[u8]) -> Result<Change, LineErro
     let mut text = Vec::new(alloc);
     text.extend_from_slice(b"dir")?;
     text.extend_from_slice(line.get(MODE.len()..).unwrap_or(&[]))?;
-    let file = match file_of(alloc, number, &text) {
+    let file = match file_in(alloc, number, &text) {
         Err(LineError::Bad(fault)) => return Err(LineError::Other(fault, MODE_LINE)),
         other => other?,
     };
@@ -181,17 +136,18 @@ fn change_of(alloc: Global, number: u64, line: &[u8]) -> Result<Change, LineErro
     })
 }
 
-/// Returns the file that a line makes, in the form of a scanned file. Its inode has the number of
-/// the line.
-pub fn file_of(alloc: Global, number: u64, line: &[u8]) -> Result<NamedFile, LineError> {
+/// The file that a line of this text makes.
+fn file_in(alloc: Global, number: u64, line: &[u8]) -> Result<NamedFile, LineError> {
     let word = field(line, 0);
     if !WORDS.iter().any(|known| *known == word) {
         return Err(LineError::Other(BAD_WORD, DEVICE_WORD));
     }
-    let parsed = parse(alloc, &with_parents(alloc, line)?)?;
-    let Some(line) = parsed.lines().last() else {
-        return Err(LineError::Bad(BAD_WORD));
-    };
+    file_of(alloc, &read_line(alloc, number, line)?)
+}
+
+/// Returns the file that a line makes, in the form of a scanned file. Its inode has the number of
+/// the line.
+pub fn file_of(alloc: Global, line: &Line) -> Result<NamedFile, LineError> {
     let path = text_of(alloc, line.path.as_bytes())?;
     let front = if path.as_str() == "/" { 1 } else { 0 };
     Ok(NamedFile {
@@ -204,7 +160,7 @@ pub fn file_of(alloc: Global, number: u64, line: &[u8]) -> Result<NamedFile, Lin
         align: NO_ALIGN,
         inode: Inode {
             device: NOWHERE,
-            number,
+            number: line.number,
         },
         has_links: false,
     })

@@ -46,8 +46,16 @@ struct Candidate {
     index: usize,
 }
 
-/// The file of each shape and digest that was found first.
-type Firsts = BTreeMap<(Shape, [u8; 32]), usize>;
+/// The SHA-256 of a file, and the state that it had from the first byte to the last.
+type Digested = ([u8; 32], Stamp);
+
+/// What was read of the files: the file of each shape and digest that was found first, and what was
+/// read of each file with several links, by its device and number.
+#[derive(Drop)]
+struct Compared {
+    firsts: BTreeMap<(Shape, [u8; 32]), usize>,
+    by_inode: BTreeMap<(u64, u64), Digested>,
+}
 
 /// The regular files that have bytes and fit into an image, sorted by their shapes. Files of one
 /// shape stay in their order.
@@ -73,13 +81,8 @@ fn candidates(reporter: &Reporter<'_>, found: &[NamedFile]) -> Result<Vec<Candid
     }
 }
 
-/// The SHA-256 of a file and the state that it had from the first byte to the last, or none if it
-/// was not in one state.
-fn digest_of(
-    rt: &HostRuntime,
-    file: &NamedFile,
-    len: u64,
-) -> io::Result<Option<([u8; 32], Stamp)>> {
+/// What is read of a file, or none if it was not in one state.
+fn digest_of(rt: &HostRuntime, file: &NamedFile, len: u64) -> io::Result<Option<Digested>> {
     let mut opened = open_found(rt, file)?;
     let was = Stamp::of(&opened.metadata()?);
     let (mut hasher, mut read) = (Sha256::new(), 0u64);
@@ -121,12 +124,37 @@ fn join(found: &mut [NamedFile], first: usize, index: usize) {
     }
 }
 
+/// What is read of a file, which is read once if it has several links. Reports a file that cannot
+/// be read, or that changes meanwhile.
+fn digested(
+    reporter: &Reporter<'_>,
+    file: &NamedFile,
+    len: u64,
+    compared: &mut Compared,
+) -> Result<Digested, Status> {
+    let key = (file.inode.device, file.inode.number);
+    if file.has_links
+        && let Some(read) = compared.by_inode.get(&key)
+    {
+        return Ok(*read);
+    }
+    let read = match digest_of(reporter.rt, file, len) {
+        Ok(Some(read)) => read,
+        Ok(None) => return Err(reporter.failed(file.place.as_bytes(), &FOLDER_CHANGED)),
+        Err(e) => return Err(reporter.refused(file.place.as_bytes(), &e)),
+    };
+    if file.has_links && compared.by_inode.insert(key, read).is_err() {
+        return Err(reporter.say(Ending::Memory));
+    }
+    Ok(read)
+}
+
 /// Makes a candidate a further name of the first file with equal bytes, if there is one, and notes
 /// the state in which it was compared.
 fn share_one(
     reporter: &Reporter<'_>,
     found: &mut [NamedFile],
-    firsts: &mut Firsts,
+    compared: &mut Compared,
     candidate: Candidate,
     watched: &mut Vec<Watched>,
 ) -> Result<(), Status> {
@@ -134,21 +162,18 @@ fn share_one(
     let Some(file) = found.get(index) else {
         return Ok(());
     };
-    let (digest, state) = match digest_of(reporter.rt, file, shape.len) {
-        Ok(Some(read)) => read,
-        Ok(None) => return Err(reporter.failed(file.place.as_bytes(), &FOLDER_CHANGED)),
-        Err(e) => return Err(reporter.refused(file.place.as_bytes(), &e)),
-    };
+    let (digest, state) = digested(reporter, file, shape.len, compared)?;
     let Ok(name) = String::from_str(reporter.rt.alloc(), &file.place) else {
         return Err(reporter.say(Ending::Memory));
     };
-    let (key, first) = ((shape, digest), firsts.get(&(shape, digest)).copied());
+    let key = (shape, digest);
+    let first = compared.firsts.get(&key).copied();
     let is_noted = match first {
         Some(first) => {
             join(found, first, index);
             true
         }
-        None => firsts.insert(key, index).is_ok(),
+        None => compared.firsts.insert(key, index).is_ok(),
     };
     let is_source = first.is_none();
     let file = Watched {
@@ -172,10 +197,14 @@ pub fn share_equal(
 ) -> Result<Vec<Watched>, Status> {
     let all = candidates(reporter, found)?;
     let alloc = reporter.rt.alloc();
-    let (mut firsts, mut watched) = (BTreeMap::new(alloc), Vec::new(alloc));
+    let mut watched = Vec::new(alloc);
+    let mut compared = Compared {
+        firsts: BTreeMap::new(alloc),
+        by_inode: BTreeMap::new(alloc),
+    };
     for (at, candidate) in all.iter().enumerate() {
         if has_equal_shape(&all, at) {
-            share_one(reporter, found, &mut firsts, *candidate, &mut watched)?;
+            share_one(reporter, found, &mut compared, *candidate, &mut watched)?;
         }
     }
     all_stayed(reporter, &watched)?;

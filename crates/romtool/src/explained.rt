@@ -5,13 +5,14 @@ ghost use Rattle.manifest.specs.Lines.{sources_of};
 use crate::origin::Origin;
 use crate::reporter::Reporter;
 use layout_plan::misfits;
+use manifest::bad_lines;
 use plan_types::Format;
 use sentences::{manifest_line, manifest_sentence, misfit_sentence, plan_line};
 use std::alloc::AllocError;
 use std::fmt::Display;
 use system_files::{Others, Target, part_path};
 
-/// The most lines that do not fit of which each is explained, beside the first.
+/// The most lines that are bad or do not fit of which each is explained, beside the first.
 const MOST_SAID: usize = 19;
 
 /// Explains a line of a manifest. Line 0 is the whole.
@@ -50,6 +51,34 @@ fn try_bad_manifest(
     let seen = manifest_line::seen(alloc, text, line, number)?;
     let what = format!(in alloc; "{name} ({number}): {sentence}: {seen}")?;
     of_line(reporter, manifest, line, &what)
+}
+
+/// Explains which lines of a text are bad after the first one: some of them one by one, and then
+/// how many more. A bad line counts as one that makes its path.
+pub fn other_bad_lines(reporter: &Reporter<'_>, manifest: &str, text: &[u8]) {
+    if reporter.is_explained() {
+        let _ = try_other_bad_lines(reporter, manifest, text);
+    }
+}
+
+fn try_other_bad_lines(
+    reporter: &Reporter<'_>,
+    manifest: &str,
+    text: &[u8],
+) -> Result<(), AllocError> {
+    let alloc = reporter.rt.alloc();
+    let Ok(all) = bad_lines(alloc, text) else {
+        return Err(AllocError);
+    };
+    for other in all.iter().skip(1).take(MOST_SAID) {
+        try_bad_manifest(reporter, manifest, text, other.line, other.number)?;
+    }
+    let more = all.len().saturating_sub(MOST_SAID.saturating_add(1));
+    if more > 0 {
+        let what = format!(in alloc; "{more} more lines are bad")?;
+        reporter.explain(manifest.as_bytes(), &what);
+    }
+    Ok(())
 }
 
 /// Explains why a line of a text is refused.

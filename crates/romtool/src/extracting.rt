@@ -13,7 +13,7 @@ ghost use Rattle.tree_extract.specs.Choices.{IsFit};
 use crate::extraction::Extraction;
 use crate::output::{Output, output};
 use crate::reporter::Reporter;
-use crate::totals::is_many_times;
+use crate::totals::{is_many_times, programs_at_pages};
 use build_commands::{Description, Filled, Unextracted, extract_image};
 use command_line::Extract;
 use image_check::AnyImage;
@@ -26,7 +26,7 @@ use sentences::reasons::{INCOMPLETE, LONG_PATH, LONG_VOLUME};
 use std::{io, slice};
 use system_files::base;
 use system_tree::{Syncing, System, Top};
-use tree_extract::{Kind as Made, Rights, Stopped, Tree};
+use tree_extract::{Directory, Kind as Made, Rights, Stopped, Tree};
 
 /// The most bytes of a volume's name in a manifest.
 const LONGEST_VOLUME: usize = 255;
@@ -44,6 +44,13 @@ const FURTHER: &str = "further names of files, made as hard links; some editors 
 /// The words for further names that are files of their own.
 const COPIES: &str = "further names of files, made as copies, since this file system makes no hard \
     links; a build does not read the copies";
+
+/// The words for programs whose places the manifest does not keep.
+const UNALIGNED: &str = "programs at a multiple of 4096, which get ALIGN 4 in this manifest; \
+    extract --align 4096 keeps them executed in place";
+
+/// The alignment in a manifest without an option.
+const USUAL_ALIGN: u32 = 4;
 
 /// The words for a pattern by which nothing is made.
 const MATCHES_NOTHING: &str = "it matches no directory, file or link of the image";
@@ -77,29 +84,35 @@ impl Counts {
     }
 }
 
-/// The directory that was entered, and the rights that it gets after it is filled.
+/// The directory that was entered, until it is finished; the rights that it gets after it is
+/// filled; and whether the system gave it these.
 #[derive(Drop)]
 struct Entered {
-    top: Top,
+    top: Option<Top>,
     rights: Rights,
     syncing: Syncing,
+    is_finished: bool,
 }
 
 impl Filled for Entered {
-    ghost use Rattle.std.specs.Prelude.{⊤};
+    ghost use Rattle.std.specs.Prelude.{◌≡◌, true};
 
     type Error = io::Error;
 
-    // Others may change them at any time.
-    ghost finished = { λ _. ⊤ };
+    // What the system answered. Others may change the directory at any time.
+    ghost finished = { λ e _. e.is_finished ≡ true };
 
-    fn finish(self) -> io::Result<()> {
-        let Entered {
-            top,
-            rights,
-            syncing,
-        } = self;
-        top.end(rights, syncing)
+    fn finish<D: Directory>(&mut self, _: &D) -> io::Result<()> {
+        let Some(top) = self.top.take() else {
+            return Err(io::Error::from(io::ErrorKind::NotFound));
+        };
+        match top.end(self.rights, self.syncing) {
+            Ok(()) => {
+                self.is_finished = true;
+                Ok(())
+            }
+            Err(e) => Err(e),
+        }
     }
 }
 
@@ -134,12 +147,13 @@ impl Extraction<'_> {
         requires { IsLawfulTree (any_view self.now.tree.now.image.now).tree }
     {
         let mut system = System::new(self.members());
-        let entered = Entered {
-            top,
+        let mut entered = Entered {
+            top: Some(top),
             rights: self.tree.rights(0),
             syncing: self.syncing,
+            is_finished: false,
         };
-        let result = extract_image(self.tree, &mut system, entered, description, out);
+        let result = extract_image(self.tree, &mut system, &mut entered, description, out);
         counts.further = system.further;
         counts.copies = system.copies;
         let status = match result {
@@ -200,6 +214,7 @@ impl Extraction<'_> {
             };
             self.explain_one(lending, LENDERS);
             self.explain_one(counts.further, FURTHER);
+            self.explain_one(self.unaligned, UNALIGNED);
             self.explain_one(counts.copies, COPIES);
         }
     }
@@ -239,14 +254,22 @@ fn take_apart<'a>(
     tree: &'a ImageTree<'a, 'a, AnyImage<'a>>,
     asked: &'a Extract<'a>,
 ) -> Status
-    requires { IsLawfulTree (any_view tree.now.image.now).tree }
+    requires shallow { IsShallow (any_view tree.now.image.now).tree }
+    requires lawful { IsLawfulTree (any_view tree.now.image.now).tree }
 {
     let directory = base(asked.directory);
+    let is_whole = asked.paths.is_empty();
+    let unaligned = if is_whole && asked.align == USUAL_ALIGN && reporter.is_explained() {
+        programs_at_pages(tree.image)
+    } else {
+        0
+    };
     let extraction = Extraction {
         reporter,
         tree,
         directory,
-        is_whole: asked.paths.is_empty(),
+        is_whole,
+        unaligned,
         syncing: if asked.no_sync {
             Syncing::Unsynced
         } else {

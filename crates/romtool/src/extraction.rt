@@ -18,6 +18,8 @@ pub struct Extraction<'a> {
     pub directory: &'a str,
     /// Whether all names of the image are made, and not only those that patterns choose.
     pub is_whole: bool,
+    /// How many programs begin at a page of the image, and have no such place in the manifest.
+    pub unaligned: u64,
     /// Whether what is made is synced to the disk.
     pub syncing: Syncing,
 }

@@ -3,11 +3,11 @@ ghost use Rattle.std.specs.Prelude.{◌≡◌, map, option_map};
 ghost use Rattle.build_commands.specs.Sources.{opened_as};
 ghost use Rattle.manifest.specs.Lines.{sources_of};
 
+use crate::asked::Asked;
 use crate::origin::Origin;
 use crate::reading::{self, TextFile};
 use crate::reporter::Reporter;
 use crate::watched::Watched;
-use command_line::Build;
 use image_build::StreamError;
 use rom_commands::{Ending, Status};
 use sentences::reasons::{NOT_TAKEN, SOURCE_CHANGED, SOURCE_UNREAD, SUM_DIFFERS};
@@ -70,14 +70,14 @@ pub fn kept_states(
 /// opened.
 #[derive(Clone, Copy)]
 pub struct Files<'a> {
-    pub asked: Build<'a>,
+    pub asked: Asked<'a>,
     pub origin: Origin<'a>,
     pub manifest: TextFile,
     pub names: &'a [&'a str],
     pub stamps: &'a [Stamp],
     pub kept: Kept<'a>,
-    ghost named: { map (λ n. n.now) names.now ≡ opened_as (option_map (λ d. d.now) asked.sources)
-        (sources_of origin.manifest.now.lines) },
+    ghost named: { map (λ n. n.now) names.now ≡ opened_as
+        (option_map (λ d. d.now) asked.wanted.sources) (sources_of origin.manifest.now.lines) },
 }
 
 impl<'a> Files<'a> {

@@ -1,11 +1,12 @@
-//! The programs of a planned image that Linux would not execute in place.
+//! Which programs of a planned image Linux would execute in place.
 use crate::origin::Origin;
-use manifest::Word;
+use crate::watched::States;
+use manifest::{Line, Word};
 use plan_types::{Body, Plan, Section};
 use program_report::{Reason, Verdict, verdict_at};
 use program_streams::read_until;
-use sentences::reasons::SOURCE_CHANGED;
-use std::alloc::{AllocError, Global};
+use sentences::reasons::{SOURCE_CHANGED, SOURCE_UNREAD};
+use std::alloc::{AllocError, AllocFailed, Global};
 use std::io;
 use system_files::{Stamp, open_unchanged};
 
@@ -15,21 +16,31 @@ const MAGIC: &[u8] = b"\x7fELF";
 /// The most bytes of a program.
 const MOST: u64 = 1 << 32;
 
+/// The number of bytes of a page.
+const PAGE: u32 = 4096;
+
 /// A program that would not be executed in place: the line that names its source, its path, and
 /// why.
-#[derive(Clone, Copy)]
-pub struct Unplaced<'m> {
+#[derive(Drop)]
+pub struct Unplaced {
     pub line: u64,
-    pub path: &'m [u8],
+    pub path: Vec<u8>,
     pub reason: Reason,
 }
 
-/// The first program of an image that would not be executed in place, if there is one, and how many
-/// programs were found.
-#[derive(Clone, Copy)]
-pub struct Found<'m> {
-    pub unplaced: Option<Unplaced<'m>>,
-    pub programs: u64,
+/// The programs and libraries of an image.
+#[derive(Drop)]
+pub struct Programs {
+    /// How many there are.
+    pub count: u64,
+    /// How many of their pages are in place.
+    pub in_place: u64,
+    /// How many of their pages are copied into memory.
+    pub copied: u64,
+    /// How many of them have a last page that is copied because other data are in it as well.
+    pub shared: u64,
+    /// Those that are not executed in place, in the order of their lines.
+    pub unplaced: Vec<Unplaced>,
 }
 
 /// Why it is not known which programs would be executed in place.
@@ -41,25 +52,55 @@ pub enum Unknown {
     Source(usize, io::Error),
 }
 
-/// The offset of the contents of each of `count` sources in a planned image. It is 0 for an empty
-/// source.
-fn places_of(alloc: Global, plan: &Plan, count: usize) -> Result<Vec<u32>, AllocError> {
-    let mut places = Vec::new(alloc);
-    places.resize(count, 0)?;
+impl From<AllocError> for Unknown {
+    fn from(_: AllocError) -> Unknown {
+        Unknown::Memory
+    }
+}
+
+impl<T: Drop> From<AllocFailed<T>> for Unknown {
+    fn from(_: AllocFailed<T>) -> Unknown {
+        Unknown::Memory
+    }
+}
+
+/// Where the contents of a source are in a planned image, and what follows them.
+#[derive(Clone, Copy, Default)]
+struct Spot {
+    /// The offset of their first byte; 0 for an empty source.
+    place: u32,
+    /// Whether other data are in their last page.
+    is_shared: bool,
+}
+
+/// Whether what follows a section is in its last page.
+fn is_shared(section: Section, next: Option<Section>) -> bool {
+    let end = section.place.saturating_add(section.len);
+    match next {
+        Some(next) => end % PAGE != 0 && next.place / PAGE == end / PAGE,
+        None => false,
+    }
+}
+
+/// The spots of the contents of `count` sources in a planned image.
+fn spots_of(alloc: Global, plan: &Plan, count: usize) -> Result<Vec<Spot>, AllocError> {
+    let mut spots = Vec::new(alloc);
+    spots.resize(count, Spot::default())?;
     for index in 0..plan.sections() {
-        if let Some(
-            Section {
-                place,
-                body: Body::Content { file },
-                ..
-            },
-        ) = plan.section(index)
-            && let Some(at) = places.get_mut(file)
+        let Some(section) = plan.section(index) else {
+            break;
+        };
+        let next = plan.section(index.saturating_add(1));
+        if let Body::Content { file } = section.body
+            && let Some(spot) = spots.get_mut(file)
         {
-            *at = place;
+            *spot = Spot {
+                place: section.place,
+                is_shared: is_shared(section, next),
+            };
         }
     }
-    Ok(places)
+    Ok(spots)
 }
 
 /// The bytes of the file of this name, if it is an ELF file.
@@ -70,10 +111,13 @@ fn elf_at(rt: &HostRuntime, name: &str, stamp: &Stamp) -> io::Result<Option<Vec<
     let mut bytes = Vec::new(rt.alloc());
     let front = MAGIC.len() as u64;
     read_until(&mut file, &mut bytes, front, front)?;
-    if bytes.as_slice() != MAGIC {
+    if bytes.as_slice() != MAGIC && bytes.len() as u64 == front.min(stamp.len) {
         return Ok(None);
     }
     read_until(&mut file, &mut bytes, MOST, stamp.len)?;
+    if (bytes.len() as u64) < stamp.len {
+        return Err(io::Error::new(io::ErrorKind::UnexpectedEof, SOURCE_UNREAD));
+    }
     Ok(Some(bytes))
 }
 
@@ -85,48 +129,92 @@ fn verdict_of(is_romfs: bool, place: u32, bytes: &[u8]) -> Option<Verdict> {
     verdict_at(is_romfs, u64::from(place), bytes)
 }
 
-/// Returns the first line of a program that Linux would not execute in place, if the image is at
-/// the front of a page of the flash, and the number of programs up to it. The sources have these
-/// names and states.
-pub fn first_unplaced<'m>(
+impl Programs {
+    /// No programs.
+    fn none(alloc: Global) -> Programs {
+        Programs {
+            count: 0,
+            in_place: 0,
+            copied: 0,
+            shared: 0,
+            unplaced: Vec::new(alloc),
+        }
+    }
+
+    /// Adds a program with this line and spot.
+    fn add(
+        &mut self,
+        alloc: Global,
+        line: &Line,
+        spot: Spot,
+        verdict: Verdict,
+    ) -> Result<(), Unknown> {
+        self.count = self.count.saturating_add(1);
+        match verdict {
+            Verdict::InPlace(pages) => {
+                // a last page that the file has for itself is in place as well
+                let more = pages.fixed.saturating_sub(pages.in_place);
+                let own = if spot.is_shared { 0 } else { more };
+                self.in_place = self
+                    .in_place
+                    .saturating_add(pages.in_place.saturating_add(own));
+                self.copied = self.copied.saturating_add(pages.copied.saturating_sub(own));
+                let is_shared = spot.is_shared && more > 0;
+                self.shared = self.shared.saturating_add(u64::from(is_shared));
+            }
+            Verdict::Not { reason, pages } => {
+                self.copied = self.copied.saturating_add(pages);
+                self.unplaced.push(Unplaced {
+                    line: line.number,
+                    path: line.path.as_bytes().to_vec(alloc)?,
+                    reason,
+                })?;
+            }
+        }
+        Ok(())
+    }
+}
+
+/// Returns the programs of a planned image, if the image is at the front of a page of the flash.
+/// The sources have these names and states. If a scan noted which of them are ELF files, only these
+/// are opened.
+pub fn programs_of(
     rt: &HostRuntime,
     plan: &Plan,
-    origin: Origin<'m>,
+    origin: Origin<'_>,
     names: &[&str],
     stamps: &[Stamp],
-) -> Result<Found<'m>, Unknown> {
-    let Ok(places) = places_of(rt.alloc(), plan, names.len()) else {
-        return Err(Unknown::Memory);
-    };
+) -> Result<Programs, Unknown> {
+    let spots = spots_of(rt.alloc(), plan, names.len())?;
     let is_romfs = plan.format().order().is_none();
     let files = origin.manifest.lines().iter();
     let files = files.filter(|line| matches!(line.word, Word::File));
-    let mut programs = 0u64;
+    let mut programs = Programs::none(rt.alloc());
     for (file, line) in files.enumerate() {
-        let (Some(name), Some(stamp), Some(place)) = (
+        let (Some(name), Some(stamp), Some(spot)) = (
             names.get(file),
             stamps.get(file),
-            places.get(file),
+            spots.get(file),
         ) else {
             break;
         };
+        if !may_be_program(origin.states(), name) {
+            continue;
+        }
         let verdict = match elf_at(rt, name, stamp) {
-            Ok(Some(bytes)) => verdict_of(is_romfs, *place, &bytes),
+            Ok(Some(bytes)) => verdict_of(is_romfs, spot.place, &bytes),
             Ok(None) => None,
+            Err(e) if e.kind() == io::ErrorKind::OutOfMemory => return Err(Unknown::Memory),
             Err(e) => return Err(Unknown::Source(file, e)),
         };
-        programs = programs.saturating_add(u64::from(verdict.is_some()));
-        if let Some(Verdict::Not { reason, .. }) = verdict {
-            let unplaced = Some(Unplaced {
-                line: line.number,
-                path: line.path.as_bytes(),
-                reason,
-            });
-            return Ok(Found { unplaced, programs });
+        if let Some(verdict) = verdict {
+            programs.add(rt.alloc(), line, *spot, verdict)?;
         }
     }
-    Ok(Found {
-        unplaced: None,
-        programs,
-    })
+    Ok(programs)
+}
+
+/// Whether the source of this name may be an ELF file, by what a scan noted, if there was one.
+fn may_be_program(states: Option<&States>, name: &str) -> bool {
+    states.is_none_or(|states| states.may_be_program(name))
 }

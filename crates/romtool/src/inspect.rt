@@ -7,7 +7,7 @@ ghost use Rattle.image_manifest.specs.Describable.{IsLawfulTree};
 ghost use Rattle.rom_commands.specs.Asked.{Fits};
 
 use crate::dump::DumpFile;
-use crate::output::{errors, lines, output};
+use crate::output::{errors, lines, output, terminal};
 use crate::patterns::{all_pieces, only};
 use crate::printed::in_file;
 use crate::reporter::Reporter;
@@ -26,6 +26,7 @@ use rom_fields::{ByteWrite, put};
 use rom_tree::{Limits, TreeImage};
 use sentences::reasons::{MISREAD, NO_ADDRESS, NO_PREFIX, NOT_IN_PLACE};
 use sentences::words::escaped;
+use std::io::IsTerminal;
 use system_files::{Found, Front, Loaded};
 
 /// The prefix of the names in a header, if none is given.
@@ -264,13 +265,16 @@ pub fn numbers(
     Ok(ending.status())
 }
 
-/// Prints the digests of the files of the image in a file, or that of the image.
+/// Prints the digests of the files of the image in a file, or that of the image. At a terminal,
+/// names are shown as in a list.
 pub fn digest(reporter: &Reporter<'_>, asked: Digest<'_>) -> Result<Status, Status> {
     let loaded = loaded_data(reporter, asked.image)?;
     let image = checked(reporter, asked.image, &loaded.bytes)?;
     let (mut out, mut err) = (output(reporter)?, errors(reporter.rt));
     let ending = if asked.whole {
         print_image_digest(image.bytes(), &mut out, &mut err)
+    } else if reporter.rt.stdout().is_terminal() {
+        print_digests(&image, &mut terminal(reporter)?, &mut err)
     } else {
         print_digests(&image, &mut out, &mut err)
     };

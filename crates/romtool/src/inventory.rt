@@ -3,16 +3,17 @@ use crate::directories::all_stayed;
 use crate::lister::{self, Survey};
 use crate::patterns::Patterns;
 use crate::reporter::Reporter;
+use crate::written::Written;
 use build_commands::inventory::{FileKind, Inode, NamedFile};
 use command_line::ScanAll;
 use directory_walk::{Directory, Entry};
 use rom_commands::{Ending, Status};
-use sentences::reasons::{FOLDER_CHANGED, NO_KIND, WHITEOUT};
+use sentences::reasons::{FOLDER_CHANGED, NO_KIND, NO_PART, PART_LEFT_OUT, WHITEOUT};
 use std::alloc::{AllocError, Global};
 use std::fs::{self, Metadata};
 use std::io;
 use std::os::unix::fs::{FileTypeExt, MetadataExt};
-use system_files::{Stamp, base, device_of, let_rest};
+use system_files::{Stamp, base, device_of, is_marked, is_part_of, let_rest};
 
 /// The bits of a mode without the kind of a file.
 const MODE_BITS: u32 = 0o7777;
@@ -90,18 +91,22 @@ impl Reported {
     }
 }
 
-/// A name in a directory, or the text of a link, that is no UTF-8.
+/// A name, and what is said of it: a name in a directory or the text of a link that is no UTF-8, or
+/// a file with the name of a part.
 #[derive(Drop)]
-struct Foreign {
+struct Noted {
     place: String,
     why: &'static str,
 }
 
-/// A survey of files of all kinds that are not excluded.
+/// A survey of files of all kinds that are not excluded and are no parts of the files that are
+/// written.
 #[derive(Drop)]
 struct Whole<'a> {
     patterns: &'a Patterns,
-    foreign: Vec<Foreign>,
+    written: &'a [Written<'a>],
+    foreign: Vec<Noted>,
+    parts: Vec<Noted>,
 }
 
 impl Whole<'_> {
@@ -115,6 +120,30 @@ impl Whole<'_> {
             status = Err(reporter.failed(foreign.place.as_bytes(), &foreign.why));
         }
         status
+    }
+
+    /// Explains which files have names of parts.
+    fn explain_parts(&self, reporter: &Reporter<'_>) {
+        for part in &self.parts {
+            reporter.explain(part.place.as_bytes(), &part.why);
+        }
+    }
+
+    /// Whether a file with these attributes is a part of a file that is written. Notes it if it has
+    /// the name of one.
+    fn is_part(&mut self, rt: &HostRuntime, place: &str, found: &Metadata) -> io::Result<bool> {
+        if !self
+            .written
+            .iter()
+            .any(|file| is_part_of(rt, place, &file.whole))
+        {
+            return Ok(false);
+        }
+        let is_marked = is_marked(found);
+        let why = if is_marked { PART_LEFT_OUT } else { NO_PART };
+        let place = String::from_str(rt.alloc(), place)?;
+        self.parts.push(Noted { place, why })?;
+        Ok(is_marked)
     }
 }
 
@@ -131,6 +160,9 @@ impl Survey for Whole<'_> {
         place: &str,
         metadata: &Metadata,
     ) -> io::Result<Option<Reported>> {
+        if self.is_part(rt, place, metadata)? {
+            return Ok(None);
+        }
         if let_rest(rt, &[Stamp::of(metadata)]) {
             let rested = fs::symlink_metadata(rt, place)?;
             return Ok(Some(Reported::of(rt, place, &rested)?));
@@ -147,7 +179,7 @@ impl Survey for Whole<'_> {
         let Ok(place) = String::from_str(reporter.rt.alloc(), name) else {
             return Err(reporter.say(Ending::Memory));
         };
-        match self.foreign.push(Foreign { place, why }) {
+        match self.foreign.push(Noted { place, why }) {
             Ok(()) => Ok(()),
             Err(_) => Err(reporter.say(Ending::Memory)),
         }
@@ -163,9 +195,9 @@ struct Scanned<'a> {
 
 /// The files that were found, with the state of each.
 #[derive(Drop)]
-struct Found {
-    files: Vec<NamedFile>,
-    states: Vec<Stamp>,
+pub struct Found {
+    pub files: Vec<NamedFile>,
+    pub states: Vec<Stamp>,
 }
 
 impl Found {
@@ -211,19 +243,24 @@ fn add_all(
     Ok(())
 }
 
-/// Returns the directories of a scan and all files below them, except excluded ones. The files of
-/// each directory are together. Reports each file that cannot be read, and one that changed during
-/// the scan.
+/// Returns the directories of a scan and all files below them, except excluded ones and parts of
+/// the files that are written. The files of each directory are together. Reports each file that
+/// cannot be read, and one that changed during the scan.
 pub fn all_below(
     reporter: &Reporter<'_>,
     scan: &ScanAll<'_>,
     patterns: &Patterns,
-) -> Result<Vec<NamedFile>, Status> {
+    written: &[Written<'_>],
+) -> Result<Found, Status> {
     let alloc = reporter.rt.alloc();
     let (files, states) = (Vec::new(alloc), Vec::new(alloc));
     let (mut found, mut entered) = (Found { files, states }, Vec::new(alloc));
-    let foreign = Vec::new(alloc);
-    let mut whole = Whole { patterns, foreign };
+    let mut whole = Whole {
+        patterns,
+        written,
+        foreign: Vec::new(alloc),
+        parts: Vec::new(alloc),
+    };
     for top in &scan.directories {
         let (metadata, walked) = lister::all_below(
             reporter,
@@ -241,7 +278,8 @@ pub fn all_below(
     whole.all_texts(reporter)?;
     stayed(reporter, &scan.directories, &entered)?;
     found.check_unchanged(reporter)?;
-    Ok(found.files)
+    whole.explain_parts(reporter);
+    Ok(found)
 }
 
 /// Reports which of the directories that were entered below each scanned one changed, if one did.

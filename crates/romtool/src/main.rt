@@ -13,7 +13,7 @@
 
 mod aligning;
 mod arguments;
-mod bad_lines;
+mod asked;
 mod building;
 mod contents;
 mod depfile;
@@ -53,6 +53,7 @@ mod unfit;
 mod version;
 mod warned;
 mod watched;
+mod written;
 
 use std::process::ExitCode;
 

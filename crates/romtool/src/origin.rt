@@ -2,7 +2,8 @@
 ghost use Rattle.std.specs.Prelude.{◌≡◌, Ok};
 ghost use Rattle.manifest.specs.Grammar.{manifest_of};
 
-use crate::watched::Watched;
+use crate::scan_all::ScannedText;
+use crate::watched::{States, Watched};
 use manifest::Manifest;
 use sentences::plan_line::line_of_source;
 
@@ -17,14 +18,36 @@ pub struct Origin<'a> {
     pub joined: Option<&'a [Vec<u8>]>,
     /// Whether a source is refused if its own name is that of a symbolic link.
     pub no_follow: bool,
-    /// The directories in which the sources were found, if the manifest is of a scan.
-    pub directories: &'a [String],
-    /// The files besides that decided what the manifest says.
-    pub watched: &'a [Watched],
+    /// What was scanned, if the manifest is of a scan.
+    pub scanned: Option<&'a ScannedText>,
     ghost says: { manifest_of text.now ≡ Ok manifest.now },
 }
 
 impl<'a> Origin<'a> {
+    /// Returns the directories in which the sources were found by a scan.
+    pub fn directories(&self) -> &'a [String] {
+        match self.scanned {
+            Some(scanned) => &scanned.directories,
+            None => &[],
+        }
+    }
+
+    /// Returns the files besides that decided what the manifest says.
+    pub fn watched(&self) -> &'a [Watched] {
+        match self.scanned {
+            Some(scanned) => &scanned.watched,
+            None => &[],
+        }
+    }
+
+    /// Returns the states in which a scan found the sources.
+    pub fn states(&self) -> Option<&'a States> {
+        match self.scanned {
+            Some(scanned) => Some(&scanned.states),
+            None => None,
+        }
+    }
+
     /// Returns the number of sources.
     pub fn count(&self) -> usize {
         self.manifest.sources().len()

@@ -1,5 +1,5 @@
 //! The manifest of directories as they are.
-use crate::aligning::{align_all, share_alignments};
+use crate::aligning::{AlignRules, align_all, share_alignments};
 use crate::devices::{LineError, Listing, text_of_file};
 use crate::equal::share_equal;
 use crate::faked::check_faked;
@@ -9,7 +9,8 @@ use crate::patterns::Patterns;
 use crate::reporter::Reporter;
 use crate::rights::{Change, RightsError, set_all};
 use crate::unfit::Unfit;
-use crate::watched::Watched;
+use crate::watched::{States, Watched};
+use crate::written::files_written;
 use crate::{depfile, device_table, devices, reading};
 use build_commands::Rule;
 use build_commands::inventory::{FileKind, NamedFile, lines, put_found};
@@ -21,14 +22,12 @@ use rom_commands::{Ending, Status};
 use rom_fields::{Failed, Plain};
 use sentences::reasons::{
     KINDS_DIFFER, LONG_NAME, MANIFEST_NOT_TAKEN, NO_SUCH_FILE, OWN_ERROR, OWN_FILE, OWN_STREAM,
-    PART_REPLACED, SCANNED,
+    PART_REPLACED,
 };
 use std::alloc::{AllocError, Global};
 use std::io::{self, BufWriter};
-use std::{env, fs, str};
-use system_files::{
-    Identity, KeepError, Target, behind_links, directory_of, name_in_directory, own_output,
-};
+use std::{env, fs};
+use system_files::{Identity, KeepError, Target, own_output};
 
 /// The most bytes of a volume's name.
 const MOST_VOLUME: usize = 255;
@@ -173,48 +172,6 @@ fn with_devices(
     }
 }
 
-/// Whether the next scan would find a file of this name in a directory that was found.
-fn is_found_in(
-    rt: &HostRuntime,
-    directory: &NamedFile,
-    name: &str,
-    patterns: &Patterns,
-) -> Result<bool, AllocError> {
-    let path = str::from_utf8(directory.path()).unwrap_or("");
-    let path = format!(in rt.alloc(); "{path}/{}", name_in_directory(name))?;
-    Ok(!patterns.exclude(rt.alloc(), path.trim_start_matches('/'))?)
-}
-
-/// Refuses to write a file of this name into a directory that is scanned, unless it is excluded:
-/// the next scan would find it.
-fn check_output(
-    reporter: &Reporter<'_>,
-    name: &str,
-    found: &[NamedFile],
-    patterns: &Patterns,
-) -> Result<(), Status> {
-    let led = behind_links(reporter.rt, name);
-    let whole = match &led {
-        Ok(whole) => whole.as_str(),
-        Err(_) => name,
-    };
-    let Ok(there) = fs::metadata(reporter.rt, directory_of(whole)) else {
-        return Ok(());
-    };
-    let is_there = |file: &NamedFile| {
-        let inode = &file.inode;
-        is_directory(file) && Identity::at(inode.device, inode.number) == Identity::of(&there)
-    };
-    match found.iter().find(|file| is_there(file)) {
-        None => Ok(()),
-        Some(directory) => match is_found_in(reporter.rt, directory, whole, patterns) {
-            Ok(false) => Ok(()),
-            Ok(true) => Err(reporter.failed(name.as_bytes(), &SCANNED)),
-            Err(_) => Err(reporter.say(Ending::Memory)),
-        },
-    }
-}
-
 /// What a scan found.
 #[derive(Drop)]
 struct Found {
@@ -224,27 +181,39 @@ struct Found {
     directories: Vec<String>,
     /// The files that were read.
     watched: Vec<Watched>,
+    states: States,
 }
 
-/// Returns what a scan finds. Files of these names are written.
+/// Returns what a scan finds. Files of these names are written. The names of ELF files are noted
+/// if that is asked for.
 fn all_found(
     reporter: &Reporter<'_>,
     scan: &ScanAll<'_>,
-    written: &[Option<&str>],
+    names: &[Option<&str>],
+    notes_programs: bool,
 ) -> Result<Found, Status> {
     let patterns = Patterns::of(reporter, scan)?;
-    let found = all_below(reporter, scan, &patterns)?;
-    for name in written {
-        if let Some(name) = name {
-            check_output(reporter, name, &found, &patterns)?;
-        }
+    let written = files_written(reporter, names)?;
+    let found = all_below(reporter, scan, &patterns, &written)?;
+    for file in &written {
+        file.check(reporter, &found.files, &patterns)?;
     }
-    let Ok(directories) = directories_of(reporter.rt, &found) else {
+    let alloc = reporter.rt.alloc();
+    let (Ok(directories), Ok(mut states)) = (
+        directories_of(reporter.rt, &found.files),
+        States::of(alloc, &found.files, &found.states, notes_programs),
+    ) else {
         return Err(reporter.say(Ending::Memory));
     };
-    let mut found = laid(reporter, found)?;
+    let mut found = laid(reporter, found.files)?;
     own_all(&mut found, scan.owner);
-    align_all(reporter, &patterns, scan.align, &mut found)?;
+    let (patterns, align) = (&patterns, scan.align);
+    align_all(
+        reporter,
+        AlignRules { patterns, align },
+        &mut found,
+        &mut states,
+    )?;
     let mut watched = Vec::new(reporter.rt.alloc());
     let mut files = with_devices(reporter, scan, found, &mut watched)?;
     if scan.dedupe {
@@ -259,6 +228,7 @@ fn all_found(
         files,
         directories,
         watched,
+        states,
     })
 }
 
@@ -333,7 +303,7 @@ fn write_to(
         target.put_back(writer);
         return Ok(());
     }
-    Err(match writer.into_inner().error() {
+    Err(match writer.error() {
         Some(e) => reporter.refused(name.as_bytes(), &e),
         None => reporter.failed(name.as_bytes(), &MANIFEST_NOT_TAKEN),
     })
@@ -521,7 +491,7 @@ fn keep(
 fn scan(reporter: &Reporter<'_>, scan: &ScanAll<'_>) -> Result<(), Status> {
     check_faked(reporter, &scan.directories)?;
     let volume = volume_of(reporter, scan)?;
-    let found = all_found(reporter, scan, &[scan.output, scan.depfile])?;
+    let found = all_found(reporter, scan, &[scan.output, scan.depfile], false)?;
     let (lines, unfit) = lines_of(reporter, scan, &found.files)?;
     match scan.output {
         Some(_) => keep(reporter, scan, volume, &found, &lines)?,
@@ -539,13 +509,14 @@ pub fn run(reporter: &Reporter<'_>, asked: &ScanAll<'_>) -> Status {
     }
 }
 
-/// The text of the manifest of directories, all directories that were found, and the files that
-/// were read.
+/// The text of the manifest of directories, all directories that were found, the files that were
+/// read, and the states in which regular files were found.
 #[derive(Drop)]
 pub struct ScannedText {
     pub text: Vec<u8>,
     pub directories: Vec<String>,
     pub watched: Vec<Watched>,
+    pub states: States,
 }
 
 /// A directory's name as make reads it. A dot by itself is no name for make, so it is spelled as
@@ -591,20 +562,22 @@ fn text_of(
 pub fn scanned_text(
     reporter: &Reporter<'_>,
     scan: &ScanAll<'_>,
-    written: &[Option<&str>],
+    names: &[Option<&str>],
 ) -> Result<ScannedText, Status> {
     check_faked(reporter, &scan.directories)?;
     let volume = volume_of(reporter, scan)?;
-    let found = all_found(reporter, scan, written)?;
+    let found = all_found(reporter, scan, names, reporter.is_explained())?;
     let text = text_of(reporter, scan, volume, &found)?;
     let Found {
         files: _,
         directories,
         watched,
+        states,
     } = found;
     Ok(ScannedText {
         text,
         directories,
         watched,
+        states,
     })
 }

@@ -175,6 +175,14 @@ pub fn texts_of<'m>(
     Ok(names)
 }
 
+/// The state of the source of this name: the one in which a scan found it, if there was one.
+fn found_stamp(reporter: &Reporter<'_>, origin: Origin<'_>, name: &str) -> io::Result<Stamp> {
+    match origin.states().and_then(|states| states.get(name)) {
+        Some(stamp) => Ok(stamp),
+        None => stamp_by(reporter, origin, name),
+    }
+}
+
 /// Returns the state of each source.
 pub fn stamps_of(
     reporter: &Reporter<'_>,
@@ -185,7 +193,7 @@ pub fn stamps_of(
 {
     let mut stamps = Vec::new(reporter.rt.alloc());
     for name in names {
-        let stamp = match stamp_by(reporter, origin, name) {
+        let stamp = match found_stamp(reporter, origin, name) {
             Ok(stamp) => stamp,
             Err(e) => {
                 return Err(say_missing(reporter, origin, stamps.len(), &Missing::Refused(e)));

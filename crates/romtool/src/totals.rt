@@ -3,10 +3,11 @@ ghost use Rattle.std.specs.Prelude.{◌≤◌};
 ghost use Rattle.rom_tree.specs.Tree.{IsShallow};
 
 use crate::reporter::Reporter;
+use elf_format::needs_pages;
 use image_check::check;
 use rom_commands::Asked;
 use rom_fields::Plain;
-use rom_tree::{Kind, Limits, TreeImage, Walk};
+use rom_tree::{Kind, Limits, TreeImage, Walk, front_bytes, longest_run};
 use std::io::{self, Write};
 
 /// How many times larger than an image its files may be without an explanation.
@@ -78,6 +79,22 @@ fn totals_of<'a, T: TreeImage<'a>>(image: &T) -> Totals
         }
     }
     totals
+}
+
+/// Returns the number of names of programs and libraries that begin at the front of a page of an
+/// image.
+pub fn programs_at_pages<'a, T: TreeImage<'a>>(image: &T) -> u64
+    requires depth { IsShallow (T.image image.now).tree }
+{
+    let mut count = 0u64;
+    let mut walk = Walk::new();
+    while let Some(node) = walk.next(image) {
+        let (place, len) = longest_run(image, node, 0, 1);
+        if len > 0 && u64::from(place) % BLOCK == 0 && needs_pages(front_bytes(image, node)) {
+            count = count.saturating_add(1);
+        }
+    }
+    count
 }
 
 /// Returns whether this number of bytes is many times the length of an image.

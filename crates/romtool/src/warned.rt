@@ -51,7 +51,12 @@ fn explain_one(
         let path = shown(alloc, warning.path)?;
         format!(in alloc; "{word}{name} ({number}): {sentence}; files: {count}, first {path}")?
     };
-    reporter.explain(place.as_bytes(), &what);
+    if line > 0 && origin.scanned.is_some() {
+        // the manifest of a scan is in no file
+        reporter.explain(warning.path, &what);
+    } else {
+        reporter.explain(place.as_bytes(), &what);
+    }
     Ok(())
 }
 
@@ -78,26 +83,28 @@ pub fn explain_size(reporter: &Reporter<'_>, out: &str, len: u64, most: u64) {
 }
 
 /// Why Linux does not execute a program in place, and what helps.
-fn reason_sentence(reason: Reason) -> &'static str {
+pub fn reason_sentence(reason: Reason) -> &'static str {
     match reason {
         Reason::Unaligned =>
             "Linux copies a program whose first byte is not at the front of a page; \
-              give it an ALIGN of 4096 (--align 4096 of a scan)",
+              give it an ALIGN of 4096 (--align 4096)",
         Reason::Scattered => "Linux copies a program that is not in one piece",
         Reason::Unloadable => "Linux does not load one of its segments; link it for pages of 4,096 \
               bytes",
         Reason::Table => "its program headers are none that Linux loads",
         Reason::Romfs => "Linux with an MMU executes nothing of romfs in place; use cramfs",
         Reason::TextRelocations => "the dynamic linker writes into its text; compile it with -fPIC",
+        Reason::Writable => "each page of it is written; link it with a segment that cannot be \
+              written (without -N, --omagic)",
     }
 }
 
 /// Explains why a program would not be executed in place.
-pub fn explain_unplaced(reporter: &Reporter<'_>, origin: Origin<'_>, found: Unplaced<'_>) {
+pub fn explain_unplaced(reporter: &Reporter<'_>, origin: Origin<'_>, found: &Unplaced) {
     let (alloc, line) = (reporter.rt.alloc(), found.line);
-    if !origin.directories.is_empty() {
+    if origin.scanned.is_some() {
         // the manifest of a scan is in no file
-        reporter.explain(found.path, &reason_sentence(found.reason));
+        reporter.explain(&found.path, &reason_sentence(found.reason));
     } else if let Ok(place) = format!(in alloc; "{}:{line}", origin.name) {
         reporter.explain(place.as_bytes(), &reason_sentence(found.reason));
     }

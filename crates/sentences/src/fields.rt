@@ -58,27 +58,6 @@ pub fn numbers_of(word: &[u8]) -> &'static [(usize, &'static str)] {
     }
 }
 
-/// Returns whether a text is a number of decimal digits below 2^32 without leading zeros.
-pub fn is_decimal(text: &[u8]) -> bool {
-    let mut number = 0u64;
-    for byte in text {
-        if !byte.is_ascii_digit() {
-            return false;
-        }
-        let digit = u64::from(byte.saturating_sub(b'0'));
-        number = number.saturating_mul(10).saturating_add(digit);
-    }
-    match text {
-        [] | [b'0', _, ..] => false,
-        _ => number <= u64::from(u32::MAX),
-    }
-}
-
-/// Returns whether a text is a mode of four octal digits.
-pub fn is_mode(text: &[u8]) -> bool {
-    text.len() == 4 && text.iter().all(|byte| *byte >= b'0' && *byte < b'8')
-}
-
 /// Returns the directory that a path is in.
 pub fn directory_of(path: &[u8]) -> &[u8] {
     match path.iter().rposition(|byte| *byte == b'/') {

@@ -1,11 +1,13 @@
 //! The fields of a manifest's line at a fault.
-use crate::fields::{
-    count_of, directory_of, field_of, is_decimal, is_mode, line_of, numbers_of, wanted_count,
-};
+use crate::fields::{count_of, directory_of, field_of, line_of, numbers_of, wanted_count};
 use crate::path_rule::{Meant, broken};
 use crate::words::field_shown;
 use manifest::error::{BAD_ALIGN, BAD_NUMBER, BAD_TARGET, BAD_WORD, EXISTS, NO_PARENT};
+use manifest::{decimal, octal};
 use std::alloc::{AllocError, Global};
+
+/// The index of the mode in a line.
+const MODE_PLACE: usize = 2;
 
 /// The index of the alignment in a `file` line.
 const ALIGN_PLACE: usize = 5;
@@ -39,12 +41,12 @@ fn wrong_word(alloc: Global, line: &[u8]) -> Result<String, AllocError> {
 fn wrong_number(alloc: Global, line: &[u8]) -> Result<String, AllocError> {
     for (place, name) in numbers_of(field_of(line, 0)) {
         let field = field_of(line, *place);
-        let is_lawful = if *place == 2 {
-            is_mode(field)
+        let number = if *place == MODE_PLACE {
+            octal(field)
         } else {
-            is_decimal(field)
+            decimal(field)
         };
-        if !is_lawful {
+        if number.is_none() {
             return format!(in alloc; "{name} is {}", field_shown(alloc, field)?);
         }
     }

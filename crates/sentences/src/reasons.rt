@@ -33,6 +33,15 @@ pub const SOURCE_CHANGED: &str = "it changed while it was read";
 pub const SOURCE_UNREAD: &str =
     "it could not be read, or its length is not the length that the system reported";
 
+/// A file was left out of a scan.
+pub const PART_LEFT_OUT: &str =
+    "left out: it is a part of a file that this command writes, left by an interrupted build";
+
+/// A file has the name of a part, and is none.
+pub const NO_PART: &str =
+    "warning: it has the name of a part of a file that this command writes, but not the mark of \
+     one (mode 1000), so it is scanned like any other file";
+
 /// A file or a directory changed during a scan.
 pub const FOLDER_CHANGED: &str = "it changed while it was scanned";
 
@@ -92,6 +101,9 @@ pub const NOT_EMPTY: &str = "it is not empty";
 pub const OF_ANOTHER_USER: &str =
     "it is owned by another user, who could change what is made in it";
 
+/// The empty file that shows the process's mask could not be removed.
+pub const PROBE_LEFT: &str = "the file .romtool-probe in it could not be removed: remove it";
+
 /// Other users may replace what is made in the directory.
 pub const OPEN_TO_OTHERS: &str =
     "other users may write in it, and could replace what is made in it";
@@ -100,8 +112,15 @@ pub const OPEN_TO_OTHERS: &str =
 pub const LINK_OF_ANOTHER: &str =
     "it is a link that another user made or may replace: name the directory itself";
 
-/// A file system on the block device is mounted.
-pub const MOUNTED: &str = "a file system on this device is mounted: unmount it first";
+/// A link to the file that is written is another user's, or another user may replace it.
+pub const OUT_BY_LINK: &str =
+    "another user made a link to it, or may replace one: name the file itself";
+
+/// A file system on the block device, or on a partition of it, is mounted.
+pub const MOUNTED: &str = "a file system on it, or on a partition of it, is mounted: unmount it";
+
+/// Swap space is on the block device, or on a partition of it.
+pub const SWAPPED: &str = "it, or a partition of it, is used as swap space: run swapoff first";
 
 /// The directory that was being filled is incomplete.
 pub const INCOMPLETE: &str = "it is incomplete; the files that were made in it are still there";
@@ -203,6 +222,9 @@ pub const TABLE_NUMBER: &str =
 
 /// A line of a table of devices makes too many devices.
 pub const TABLE_COUNT: &str = "COUNT is at most 65536";
+
+/// The lines of a table of devices make too many files.
+pub const TABLE_FILES: &str = "all lines together make or set at most 1048576 files";
 
 /// A line of a table of devices is about a file that is not there, or of another kind.
 pub const TABLE_FILE: &str =

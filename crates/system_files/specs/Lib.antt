@@ -2,3 +2,4 @@ pub mod Device
 pub mod Names
 pub mod Parts
 pub mod Loads
+pub mod Placed

@@ -10,9 +10,9 @@ use crate::closing::close;
 use crate::owner::{lends_rights, take_after};
 use crate::parts::{Lock, MARK, lock_part, part_path, remove_left};
 use crate::stamp::Identity;
+use crate::writer::Writer;
 use atomic_file::{Account, Answer, Asked, CreateError, Directory, Durability, LeftError, Names};
-use program_streams::{Held, Remembering};
-use rom_fields::{ByteWrite, Failed, Plain};
+use rom_fields::{ByteWrite, Failed};
 use std::fs::{File, Metadata, OpenFile, OpenOptions, Permissions};
 use std::os::unix::fs::{MetadataExt, OpenOptionsExt, PermissionsExt};
 use std::{fs, io};
@@ -26,9 +26,6 @@ pub const NAMES: Names = Names {
 
 /// How many calls an account has memory for: three for each part, and four at the end.
 const CALLS: usize = 304;
-
-/// A writer of a file, which holds back short pieces and remembers why the system refused a write.
-pub type Writer = Plain<Remembering<Held<File>>>;
 
 /// The reason why a target did not get its name.
 #[derive(Drop)]
@@ -134,6 +131,13 @@ impl Beside {
         self.error
     }
 
+    /// Returns the calls that were made, and what they returned.
+    pub fn into_account(self) -> Account
+        ensures { result ≡ self.account }
+    {
+        self.account
+    }
+
     /// Returns whether a call was refused.
     pub fn is_refused(&self) -> bool {
         self.error.is_some()
@@ -162,10 +166,9 @@ fn path_of(rt: &HostRuntime, whole: &str, name: u32) -> io::Result<String> {
 }
 
 /// Returns the file behind a writer, after all was passed on to it.
-fn into_file(mut part: Writer) -> io::Result<File> {
+pub fn into_file(mut part: Writer) -> io::Result<File> {
     let is_flushed = part.flush().is_ok();
-    let (held, error) = part.into_inner().into_parts();
-    let (file, _) = held.into_parts();
+    let (file, error) = part.into_parts();
     match error {
         Some(e) => Err(e),
         None if !is_flushed => Err(io::Error::from(io::ErrorKind::WriteZero)),
@@ -394,8 +397,7 @@ impl Directory for System<'_> {
         match self.made(name) {
             Ok(file) => {
                 self.beside.account.note(Asked::Create(name), Answer::Done);
-                let held = Held::new(self.rt.alloc(), file);
-                Ok(Plain::new(Remembering::new(held)))
+                Ok(Writer::new(self.rt.alloc(), file))
             }
             Err(e) => {
                 self.beside

@@ -8,7 +8,9 @@
 //!
 //! Trusted by reading: each method of `Directory` in `beside.rt` makes the calls of the system that
 //! it notes, and notes what they returned; the methods of `Opener` in `disk.rt` open the file of
-//! the name, and pass on what the system read. What the system says of a file is known by no proof:
+//! the name, and pass on what the system read; `rewrite` in `writer.rt` writes the bytes at their
+//! offset; and what `imaging.rt` and `target.rt` keep in fields (`seen`, `synced`, `is_closed`,
+//! `fate`) is what the system answered. What the system says of a file is known by no proof:
 //! functions that only return that have no clause.
 //!
 //! `load` reads an image from any reader, up to the length that a check reads; if the first bytes
@@ -29,20 +31,23 @@ mod names;
 pub mod own_output;
 mod owner;
 mod parts;
+mod placed;
 mod progress;
 mod stamp;
 mod target;
+mod writer;
 
-pub use beside::{KeepError, Others, Writer};
+pub use beside::{KeepError, Others};
 pub use closing::{close, settle_output};
 pub use device::device_of;
 pub use directories::{base, directory_at, is_foreign, opened_name, state_of};
 pub use disk::{Disk, Opened, first_changed, stamp_unlinked};
-pub use imaging::{Late, Unchanged};
+pub use imaging::{Late, Seen, Unchanged};
 pub use loading::{Found, Front, Loaded, load};
-pub use names::{behind_links, directory_of, name_in_directory};
-pub use owner::{STICKY, WRITABLE_BY_OTHERS};
-pub use parts::part_path;
+pub use names::{directory_of, is_open_to_others, is_own_file, name_in_directory, way_to};
+pub use parts::{is_marked, part_path};
+pub use placed::Placed;
 pub use progress::Progress;
-pub use stamp::{Identity, Stamp, has_changed, let_rest, open_unchanged, stamp_of};
+pub use stamp::{Identity, Stamp, has_changed, let_rest, open_unchanged, stamp_of, wait_for_late};
 pub use target::{FillError, KeptWith, Target, are_one_file, is_part_of};
+pub use writer::Writer;

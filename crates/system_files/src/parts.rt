@@ -6,7 +6,7 @@ ghost use Rattle.system_files.specs.Names.{IsPartOf, part_name};
 use crate::names::name_in_directory;
 use crate::stamp::Identity;
 use std::alloc::{AllocError, Global};
-use std::fs::{File, OpenFile, TryLockError};
+use std::fs::{File, Metadata, OpenFile, TryLockError};
 use std::os::unix::fs::MetadataExt;
 use std::{fs, io};
 
@@ -119,13 +119,19 @@ pub fn lock_part(rt: &HostRuntime, name: &str, made: &File) -> Lock {
     }
 }
 
-/// Removes a part if no build has its lock, and returns whether it did. A file that is not regular,
-/// that has no mark, that has further names, or that is one of the inputs, is no part.
+/// Returns whether a file with the name of a part and these attributes is one: it is regular, has
+/// the mark, and has no further names.
+pub fn is_marked(found: &Metadata) -> bool {
+    found.is_file() && found.mode() & MARK != 0 && found.nlink() == 1
+}
+
+/// Removes a part if no build has its lock, and returns whether it did. A file that is not marked
+/// as a part, or that is one of the inputs, stays.
 pub fn remove_left(rt: &HostRuntime, name: &str, inputs: &[Identity]) -> bool {
     let Ok(found) = fs::symlink_metadata(rt, name) else {
         return false;
     };
-    if !found.is_file() || found.mode() & MARK == 0 || found.nlink() != 1 {
+    if !is_marked(&found) {
         return false;
     }
     let identity = Identity::of(&found);

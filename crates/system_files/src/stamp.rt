@@ -8,6 +8,12 @@ use std::{io, thread};
 /// The most milliseconds by which a file system's clock is late: two of the longest ticks of Linux.
 const LAG: u64 = 20;
 
+/// How many milliseconds a file has to be at rest before one look at its state suffices.
+const RECENT: u64 = 1_000;
+
+/// How many milliseconds later a second look shows a program that writes a file all the time.
+const LATER: u64 = 30;
+
 /// A file, independent of its names.
 #[derive(Clone, Copy, PartialEq, Eq)]
 pub struct Identity {
@@ -75,6 +81,15 @@ impl Stamp {
         let seconds = u64::try_from(self.changed.seconds).ok()?;
         let nanoseconds = u64::try_from(self.changed.nanoseconds).unwrap_or(0);
         Some(Duration::from_secs(seconds).saturating_add(Duration::from_nanos(nanoseconds)))
+    }
+
+    /// Whether the file was changed within the last second before `now`, a time since 1970, or
+    /// later.
+    fn is_recent(&self, now: Duration) -> bool {
+        match self.changed() {
+            Some(changed) => changed.saturating_add(Duration::from_millis(RECENT)) >= now,
+            None => false,
+        }
     }
 
     /// How long to wait from `now`, a time since 1970, until no later change can have the time of
@@ -153,4 +168,19 @@ pub fn let_rest(rt: &HostRuntime, stamps: &[Stamp]) -> bool {
         }
         None => false,
     }
+}
+
+/// Waits for some milliseconds if one of these files was changed within the last second, and
+/// returns whether it waited. The system sets the times of a file before the bytes of a write, and
+/// may hold up that write in between. So the state that was seen may be older than bytes that were
+/// read; a program that writes all the time has changed it once more after the wait.
+pub fn wait_for_late(rt: &HostRuntime, stamps: &[Stamp]) -> bool {
+    let Ok(now) = rt.since_1970() else {
+        return false;
+    };
+    let is_due = stamps.iter().any(|stamp| stamp.is_recent(now));
+    if is_due {
+        thread::sleep(rt, Duration::from_millis(LATER));
+    }
+    is_due
 }

@@ -1,23 +1,29 @@
 //! The target of an image. It gets its name only after all of it is written.
 ghost use Rattle.std.specs.Prelude.{◌≡◌, ◌≤◌, ◌%◌, [], length};
+ghost use Rattle.std.specs.Prelude.{IfErr, OnOk};
 ghost use Rattle.atomic_file.specs.Accounts.{log_of, room_of};
+ghost use Rattle.build_commands.specs.Built.{IsFateAfter};
+ghost use Rattle.build_commands.specs.declared.fate.Fate.TheVariants.{Open, Kept};
 
-use crate::beside::{Beside, KeepError, NAMES, Others, PartRights, System, Writer, is_of_its_kind};
+use crate::beside::{
+    Beside, KeepError, NAMES, Others, PartRights, System, into_file, is_of_its_kind,
+};
 use crate::closing::close;
-use crate::mounted::is_mounted;
-use crate::names::{behind_links, directory_of, name_in_directory};
+use crate::mounted::use_of;
+use crate::names::{directory_of, is_own_file, name_in_directory, way_to};
 use crate::owner::{STICKY, WRITABLE_BY_OTHERS};
 use crate::parts::is_part_name;
+use crate::placed::Placed;
 use crate::stamp::Identity;
-use atomic_file::{Begun, Unbegun, Unfinished, abandon, begin, keep};
+use crate::writer::Writer;
+use atomic_file::{Begun, Durability, Unbegun, Unfinished, abandon, begin, keep};
 use build_commands::{
-    Closer, Companion, Ended, Job, Tools, Unbuilt, Unplaced, build_file, build_over,
+    Closer, Companion, Ended, Fate, Job, Tools, Unbuilt, Unplaced, build_file, build_over,
 };
 use file_sources::Opener;
 use image_build::{LastCheck, Unwritten};
-use program_streams::{Held, Remembering};
-use rom_fields::{ByteWrite, Failed, Plain};
-use sentences::reasons::{HUNDRED_PARTS, MOUNTED, OUT_OF_ANOTHER, REPLACED};
+use rom_fields::{ByteWrite, Failed};
+use sentences::reasons::{HUNDRED_PARTS, OUT_OF_ANOTHER, REPLACED};
 use std::fs::{File, Metadata, OpenFile, OpenOptions};
 use std::marker::Model;
 use std::os::unix::fs::MetadataExt;
@@ -28,9 +34,6 @@ const PRIVATE: u32 = 0o600;
 
 /// The permissions of a new file, before the process's mask is applied.
 const USUAL: u32 = 0o666;
-
-/// The directory of the process, which belongs to its user.
-const PROCESS: &str = "/proc/self";
 
 /// A part that was made for a name, under its own name.
 #[derive(Drop)]
@@ -130,29 +133,25 @@ fn is_shared(directory: &Metadata) -> bool {
 /// trusted.
 fn check_maker(rt: &HostRuntime, name: &str, found: &Metadata) -> io::Result<()> {
     let directory = fs::metadata(rt, directory_of(name))?;
-    if !is_shared(&directory) || found.uid() == directory.uid() {
+    if !is_shared(&directory) || found.uid() == directory.uid() || is_own_file(rt, found) {
         return Ok(());
     }
-    match fs::metadata(rt, PROCESS) {
-        Ok(process) if process.uid() == found.uid() => Ok(()),
-        _ => Err(io::Error::new(io::ErrorKind::PermissionDenied, OUT_OF_ANOTHER)),
-    }
+    Err(io::Error::new(io::ErrorKind::PermissionDenied, OUT_OF_ANOTHER))
 }
 
 /// Makes a new file beside a regular file that can be written, with its owner and permissions.
-fn in_place_of(rt: &HostRuntime, name: &str, inputs: Vec<Identity>) -> io::Result<Target> {
-    let found = to_write(rt, name)?.metadata()?;
-    let whole = behind_links(rt, name)?;
-    if Identity::of(&fs::symlink_metadata(rt, &whole)?) != Identity::of(&found) {
+fn in_place_of(rt: &HostRuntime, whole: &str, inputs: Vec<Identity>) -> io::Result<Target> {
+    let found = to_write(rt, whole)?.metadata()?;
+    if Identity::of(&fs::symlink_metadata(rt, whole)?) != Identity::of(&found) {
         return Err(io::Error::new(io::ErrorKind::NotFound, REPLACED));
     }
-    let directory = opened_directory(rt, &whole)?;
-    check_maker(rt, &whole, &found)?;
+    let directory = opened_directory(rt, whole)?;
+    check_maker(rt, whole, &found)?;
     let rights = PartRights {
         mode: PRIVATE,
         like: Some(found),
     };
-    target_beside(rt, Beside::new(rt, &whole, directory, rights, inputs)?)
+    target_beside(rt, Beside::new(rt, whole, directory, rights, inputs)?)
 }
 
 /// Makes a new file beside a name that nothing has, not even a link that leads nowhere.
@@ -184,7 +183,7 @@ fn straight(rt: &HostRuntime, name: &str) -> io::Result<Target> {
         Err(_) => None,
     };
     Ok(Target {
-        writer: Some(Plain::new(Remembering::new(Held::new(rt.alloc(), file)))),
+        writer: Some(Writer::new(rt.alloc(), file)),
         straight,
         ready: None,
     })
@@ -218,34 +217,68 @@ pub fn is_part_of(rt: &HostRuntime, part: &str, whole: &str) -> bool {
     is_part_name(part, whole) && are_in_one_directory(rt, part, whole)
 }
 
-/// What closes a file that is not regular.
+/// What closes a file that is not regular, and what the system answered.
 #[derive(Drop)]
 struct StraightCloser<'a> {
     rt: &'a HostRuntime,
+    // the answer to the synchronization, unless it was refused
+    synced: Option<Durability>,
+    // whether the close was answered without an error
+    is_closed: bool,
+}
+
+/// Synchronizes a file that is not regular, if that can be done.
+fn synced(file: &File) -> io::Result<Durability> {
+    match file.sync_all() {
+        Ok(()) => Ok(Durability::Durable),
+        Err(e) if is_of_its_kind(&e) => Ok(Durability::Unknown),
+        Err(e) => Err(e),
+    }
 }
 
 impl Closer for StraightCloser<'_> {
+    ghost use Rattle.std.specs.Prelude.{◌≡◌, Some, true};
+    ghost use Rattle.atomic_file.specs.declared.directory.Durability.{Durability};
+
     type File = Writer;
 
     type Error = KeepError;
 
+    // What the file has then is known by no proof.
+    ghost closed = { λ c _. (d : Durability) × (c.synced ≡ Some d) × (c.is_closed ≡ true) };
+
     fn close(&mut self, file: Writer) -> Result<(), KeepError> {
-        keep_straight(self.rt, file)
+        let file = match into_file(file) {
+            Ok(file) => file,
+            Err(e) => return Err(KeepError::Refused(e)),
+        };
+        match synced(&file) {
+            Ok(durability) => self.synced = Some(durability),
+            Err(e) => return Err(KeepError::Refused(e)),
+        }
+        match close(self.rt, file) {
+            Ok(()) => {
+                self.is_closed = true;
+                Ok(())
+            }
+            Err(e) => Err(KeepError::Refused(e)),
+        }
+    }
+}
+
+/// Returns what closes a file that is not regular.
+fn straight_closer(rt: &HostRuntime) -> StraightCloser<'_> {
+    StraightCloser {
+        rt,
+        synced: None,
+        is_closed: false,
     }
 }
 
 /// Synchronizes a file that is not regular, if that can be done, and closes it.
 fn keep_straight(rt: &HostRuntime, writer: Writer) -> Result<(), KeepError> {
-    let (held, _) = writer.into_inner().into_parts();
-    let (file, _) = held.into_parts();
-    match file.sync_all() {
-        Err(e) if !is_of_its_kind(&e) => return Err(KeepError::Refused(e)),
-        _ => {}
-    }
-    match close(rt, file) {
-        Ok(()) => Ok(()),
-        Err(e) => Err(KeepError::Refused(e)),
-    }
+    let mut closer = straight_closer(rt);
+    closer.close(writer)
 }
 
 /// Returns why a directory refused to keep a part.
@@ -267,18 +300,23 @@ impl Ready {
         }
     }
 
-    /// Fills the part with the image of a job, gives it its name, and reports this.
+    /// Fills the part with the image of a job, gives it its name, and reports this. `Ok`: by the
+    /// account of the calls that were made, the file is this image.
     fn build<O: Opener, K: LastCheck, C: Companion, W: ByteWrite>(
         self,
         rt: &HostRuntime,
         part: Writer,
         job: &Job<'_, O>,
-        tools: Tools<O, K, C>,
+        tools: Tools<O, K>,
+        companion: &mut C,
         buffer: &mut [u8],
         out: &mut W,
-    ) -> Ended<O, K, Result<(), Unbuilt<FillError<Unwritten<K::Error>>, C::Error>>>
+    ) -> Ended<O, K, Result<Placed, Unbuilt<FillError<Unwritten<K::Error>>, C::Error>>>
         requires buffer { 4096 ≤ length buffer.old }
         requires words { length buffer.old % 4 ≡ 0 }
+        requires companion { C.fate companion.old ≡ Open }
+        ensures kept { OnOk result.result (C.fate companion.new ≡ Kept) }
+        ensures unkept { IfErr result.result (IsFateAfter (C.fate companion.new)) }
     {
         let Ready { beside, name } = self;
         let mut system = System { rt, beside };
@@ -293,13 +331,14 @@ impl Ready {
             Begun { name, part },
             job,
             tools,
+            companion,
             buffer,
             out,
         );
         let result = match result {
-            Ok(_) => Ok(()),
+            Ok(_) => Ok(Placed::Renamed(system.beside.into_account())),
             Err(Unbuilt::NotMade(Unfinished::NotWritten(e, part))) => {
-                let reason = part.into_inner().error();
+                let reason = part.error();
                 Err(Unbuilt::NotMade(FillError::NotWritten(e, reason)))
             }
             Err(Unbuilt::NotMade(Unfinished::NotKept)) => {
@@ -331,16 +370,17 @@ impl Target {
     /// # Errors
     ///
     /// The operating system's error: for a directory, for a file that cannot be written, for a link
-    /// that leads nowhere, or if no file can be made beside it; `ResourceBusy` for a block device
-    /// that is mounted.
+    /// that leads nowhere or that others made or may replace, or if no file can be made beside it;
+    /// `ResourceBusy` for a block device that the system uses.
     pub fn open(rt: &HostRuntime, name: &str, inputs: Vec<Identity>) -> io::Result<Target> {
-        match fs::metadata(rt, name) {
-            Ok(found) if found.is_file() => in_place_of(rt, name, inputs),
-            Ok(found) if is_mounted(rt, &found) => {
-                Err(io::Error::new(io::ErrorKind::ResourceBusy, MOUNTED))
-            }
-            Ok(_) => straight(rt, name),
-            Err(e) if e.kind() == io::ErrorKind::NotFound => in_a_new_place(rt, name, inputs, e),
+        let whole = way_to(rt, name)?;
+        match fs::metadata(rt, &whole) {
+            Ok(found) if found.is_file() => in_place_of(rt, &whole, inputs),
+            Ok(found) => match use_of(rt, &found) {
+                Some(why) => Err(io::Error::new(io::ErrorKind::ResourceBusy, why)),
+                None => straight(rt, &whole),
+            },
+            Err(e) if e.kind() == io::ErrorKind::NotFound => in_a_new_place(rt, &whole, inputs, e),
             Err(e) => Err(e),
         }
     }
@@ -351,6 +391,12 @@ impl Target {
             Some(ready) => Some((ready.beside.whole(), ready.beside.others())),
             None => None,
         }
+    }
+
+    /// Returns whether what is written gets the name only at the end, so that its bytes can be
+    /// replaced until then.
+    pub fn is_part(&self) -> bool {
+        self.ready.is_some()
     }
 
     /// Returns whether both are written to one file, or are to get one name in one directory.
@@ -392,7 +438,8 @@ impl Target {
     }
 
     /// Fills it with the image of a job, gives it its name as `keep` does, keeps the companion, and
-    /// writes `ok LENGTH` to `out`.
+    /// writes `ok LENGTH` to `out`. `Ok`: a part was renamed, if there is one, by the account of
+    /// the calls that were made; otherwise the file was written in place.
     ///
     /// # Errors
     ///
@@ -401,23 +448,27 @@ impl Target {
         self,
         rt: &HostRuntime,
         job: &Job<'_, O>,
-        tools: Tools<O, K, C>,
+        tools: Tools<O, K>,
+        companion: &mut C,
         buffer: &mut [u8],
         out: &mut W,
-    ) -> Ended<O, K, Result<(), Unbuilt<FillError<Unwritten<K::Error>>, C::Error>>>
+    ) -> Ended<O, K, Result<Placed, Unbuilt<FillError<Unwritten<K::Error>>, C::Error>>>
         requires buffer { 4096 ≤ length buffer.old }
         requires words { length buffer.old % 4 ≡ 0 }
+        requires companion { C.fate companion.old ≡ Open }
+        ensures kept { OnOk result.result (C.fate companion.new ≡ Kept) }
+        ensures unkept { IfErr result.result (IsFateAfter (C.fate companion.new)) }
     {
         let Target { writer, ready, .. } = self;
         match (writer, ready) {
-            (Some(writer), Some(ready)) => ready.build(rt, writer, job, tools, buffer, out),
-            (Some(writer), None) => build_straight(rt, writer, job, tools, buffer, out),
+            (Some(writer), Some(ready)) => {
+                ready.build(rt, writer, job, tools, companion, buffer, out)
+            }
+            (Some(writer), None) => {
+                build_straight(rt, writer, job, tools, companion, buffer, out)
+            }
             (None, _) => {
-                let Tools {
-                    opener,
-                    last,
-                    mut companion,
-                } = tools;
+                let Tools { opener, last } = tools;
                 companion.give_up();
                 Ended {
                     opener,
@@ -443,23 +494,28 @@ fn build_straight<O: Opener, K: LastCheck, C: Companion, W: ByteWrite>(
     rt: &HostRuntime,
     writer: Writer,
     job: &Job<'_, O>,
-    tools: Tools<O, K, C>,
+    tools: Tools<O, K>,
+    companion: &mut C,
     buffer: &mut [u8],
     out: &mut W,
-) -> Ended<O, K, Result<(), Unbuilt<FillError<Unwritten<K::Error>>, C::Error>>>
+) -> Ended<O, K, Result<Placed, Unbuilt<FillError<Unwritten<K::Error>>, C::Error>>>
     requires buffer { 4096 ≤ length buffer.old }
     requires words { length buffer.old % 4 ≡ 0 }
+    requires companion { C.fate companion.old ≡ Open }
+    ensures kept { OnOk result.result (C.fate companion.new ≡ Kept) }
+    ensures unkept { IfErr result.result (IsFateAfter (C.fate companion.new)) }
 {
+    let mut closer = straight_closer(rt);
     let Ended {
         opener,
         last,
         unread,
         result,
-    } = build_over(&mut StraightCloser { rt }, writer, job, tools, buffer, out);
+    } = build_over(&mut closer, writer, job, tools, companion, buffer, out);
     let result = match result {
-        Ok(()) => Ok(()),
+        Ok(()) => Ok(Placed::Written(closer.synced.unwrap_or(Durability::Unknown))),
         Err(Unbuilt::NotMade(Unplaced::NotWritten(e, writer))) => {
-            let reason = writer.into_inner().error();
+            let reason = writer.error();
             Err(Unbuilt::NotMade(FillError::NotWritten(e, reason)))
         }
         Err(Unbuilt::NotMade(Unplaced::NotClosed(e))) => {
@@ -481,15 +537,29 @@ fn build_straight<O: Opener, K: LastCheck, C: Companion, W: ByteWrite>(
 pub struct KeptWith<'a> {
     pub rt: &'a HostRuntime,
     pub target: Option<Target>,
+    /// What became of it.
+    pub fate: Fate,
 }
 
 impl Companion for KeptWith<'_> {
     type Error = KeepError;
 
+    ghost fate = { λ k. k.fate };
+
     fn keep(&mut self) -> Result<(), KeepError> {
-        match self.target.take() {
+        let kept = match self.target.take() {
             Some(target) => target.keep(self.rt),
             None => Ok(()),
+        };
+        match kept {
+            Ok(()) => {
+                self.fate = Fate::Kept;
+                Ok(())
+            }
+            Err(e) => {
+                self.fate = Fate::Lost;
+                Err(e)
+            }
         }
     }
 
@@ -497,5 +567,6 @@ impl Companion for KeptWith<'_> {
         if let Some(target) = self.target.take() {
             target.abandon(self.rt);
         }
+        self.fate = Fate::GivenUp;
     }
 }

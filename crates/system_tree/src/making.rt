@@ -1,13 +1,15 @@
 //! Makes directories, files and links where nothing exists, and syncs them to the disk if that is
 //! asked for.
-use sentences::reasons::{LINK_OF_ANOTHER, NOT_EMPTY, OF_ANOTHER_USER, OPEN_TO_OTHERS, REPLACED};
+use sentences::reasons::{
+    LINK_OF_ANOTHER, NOT_EMPTY, OF_ANOTHER_USER, OPEN_TO_OTHERS, PROBE_LEFT, REPLACED,
+};
 use std::fs::{self, DirBuilder, File, Metadata, OpenFile, OpenOptions, Permissions};
 use std::os::unix::fs::{
     DirBuilderExt, MetadataExt, OpenOptionsExt, PermissionsExt, fchown, lchown, symlink,
 };
 use std::{env, io};
 use system_files::{
-    Identity, STICKY, WRITABLE_BY_OTHERS, close, directory_at, directory_of, name_in_directory,
+    Identity, close, directory_at, directory_of, is_open_to_others, name_in_directory,
 };
 use tree_extract::{Owner, Rights};
 
@@ -137,12 +139,6 @@ pub fn new_name(rt: &HostRuntime, file: &str, place: &str) -> io::Result<bool> {
     }
 }
 
-/// Whether other users may replace what is in a directory with these attributes: they may write in
-/// it, and no sticky bit keeps them from the names of others.
-fn is_open_to_others(found: &Metadata) -> bool {
-    found.mode() & WRITABLE_BY_OTHERS != 0 && found.mode() & STICKY == 0
-}
-
 /// Checks that a link in the current directory leads where the owner of the directory behind it, or
 /// root, lets it lead: nobody else may have made the link, or may replace it.
 ///
@@ -268,19 +264,30 @@ impl Top {
     }
 }
 
+/// Whether another file has the name of the probe that was made, as far as the system says it.
+fn is_replaced(rt: &HostRuntime, probe: &File) -> bool {
+    match (fs::symlink_metadata(rt, PROBE), probe.metadata()) {
+        (Ok(found), Ok(made)) => Identity::of(&found) != Identity::of(&made),
+        _ => false,
+    }
+}
+
 /// The bits of a mode that the process's mask removes from new files in the current directory. It
-/// has to belong to the user of the process. An empty file shows both, and is removed again.
+/// has to belong to the user of the process. An empty file shows both, and is removed again; if it
+/// cannot be removed, the error says so.
 fn masked_in(rt: &HostRuntime, directory: &File) -> io::Result<u32> {
     let probe = OpenOptions::new()
         .write(true)
         .create_new(true)
         .mode(ALL_PERMISSIONS)
         .open(rt, PROBE)?;
-    let (made, there) = (probe.metadata()?, directory.metadata()?);
-    if Identity::of(&fs::symlink_metadata(rt, PROBE)?) != Identity::of(&made) {
+    if is_replaced(rt, &probe) {
         return Err(io::Error::new(io::ErrorKind::NotFound, REPLACED));
     }
-    fs::remove_file(rt, PROBE)?;
+    if let Err(e) = fs::remove_file(rt, PROBE) {
+        return Err(io::Error::new(e.kind(), PROBE_LEFT));
+    }
+    let (made, there) = (probe.metadata()?, directory.metadata()?);
     if made.uid() != there.uid() {
         return Err(io::Error::new(io::ErrorKind::PermissionDenied, OF_ANOTHER_USER));
     }

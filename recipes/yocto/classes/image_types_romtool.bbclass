@@ -3,10 +3,11 @@
 #     IMAGE_CLASSES += "image_types_romtool"
 #     IMAGE_FSTYPES += "romtool"
 #
-# Owners, modes and devices are those that pseudo shows. ROMTOOL_DEVICES may name a file for --devices.
+# Owners, modes and devices are those that pseudo shows. ROMTOOL_DEVICES may name a file for --devices. For a target without an MMU,
+# and for romfs, set ROMTOOL_OPTIONS without --xip. In a message, -:N is line N of the manifest, which is in WORKDIR.
 
 ROMTOOL_FORMAT ?= "${@'cramfs-be' if d.getVar('SITEINFO_ENDIANNESS') == 'be' else 'cramfs'}"
-ROMTOOL_OPTIONS ?= "--align 4096 --strict"
+ROMTOOL_OPTIONS ?= "--align 4096 --strict --xip"
 ROMTOOL_DEVICES ?= ""
 
 inherit siteinfo

@@ -7,9 +7,9 @@ pub returns-clause-ok : goal.returns-clause-ok
 returns-clause-ok g c =
     let job = c.args.job.now in
     let ended = c.replaced_by-opener.result in
-    built_of job.asked job.text.now job.foreseen
+    built_of job.wanted job.text.now job.foreseen
     (λ old. IsBegun c.args.names c.args.begun.name old (g.D.Directory.log c.args.directory.now))
-    (λ old ns. IsReplaced c.args.names (IsMade (g.K.LastCheck.passed ended.last) job.asked
+    (λ old ns. IsReplaced c.args.names (IsMade (g.K.LastCheck.passed ended.last) job.wanted
     (g.O.Opener.contents c.args.tools.opener) (g.O.Opener.IsLog c.args.tools.opener) (g.O.Opener.IsLog ended.opener)
     ns job.plan.now g.D.Directory.fresh) old (g.D.Directory.log c.replaced_by-opener.new.directory))
     job.plan.now _ _ job.manifest.now _ job.says job.named job.planned job.format job.within

@@ -12,15 +12,17 @@ use Rattle.rom_fields.specs.declared.span.Span.{Span}
 use Rattle.cramfs_format.specs.declared.order.Order.{Order}
 use Rattle.cramfs_image.specs.declared.overlap.File.{File}
 use Rattle.cramfs_image.specs.Files.{list_part, file_part, FileLies}
+use Rattle.cramfs_image.specs.Merged.{expanded}
+use Rattle.cramfs_image.proofs.Joined.{base_apart}
 use Rattle.cramfs_image.proofs.Rows.{parts_more, rows_same, rows_least, all_lie}
 use Rattle.cramfs_image.proofs.overlap.all_extents.Goals as goal
 
 -- after the last row, all lists were added
 lists_are : (o : Order) (b : List ℕ) (rows : List Row) (i : ℕ) (es : List Span) → length rows ≤ i
     → es ≡ added Super 0 76 ++ flat_map (list_part o b) (take i rows)
-    → es ≡ added Super 0 76 ++ flat_map (list_part o b) rows
-lists_are o b rows i es l e =
-    e ∙ ap (λ (v : List Row). added Super 0 76 ++ flat_map (list_part o b) v) (take_all i rows l)
+    → expanded es ≡ added Super 0 76 ++ flat_map (list_part o b) rows
+lists_are o b rows i es l e = base_apart o b rows es
+    (e ∙ ap (λ (v : List Row). added Super 0 76 ++ flat_map (list_part o b) v) (take_all i rows l))
 
 -- and all files were noted
 files_sorted : (o : Order) (b : List ℕ) (rows : List Row) (i : ℕ) (noted sorted lent : List File) → length rows ≤ i
@@ -59,8 +61,9 @@ add_files-requires-clause-sorted c =
 
 pub returns-clause-same : goal.returns-clause-same
 returns-clause-same c =
-    rows_same c.args.b.now.order c.args.b.now.bytes.now c.args.rows.now c.deref.result.now c.rows.extents.items
-    c.add_files.new.extents.items (lists_are c.args.b.now.order c.args.b.now.bytes.now c.args.rows.now
+    rows_same c.args.b.now.order c.args.b.now.bytes.now c.args.rows.now c.deref.result.now
+    (expanded c.rows.extents.items) (expanded c.add_files.new.extents.items)
+    (lists_are c.args.b.now.order c.args.b.now.bytes.now c.args.rows.now
     c.rows.row-index c.rows.extents.items c.rows-test.false c.rows.invariant.lists)
     (files_sorted c.args.b.now.order c.args.b.now.bytes.now c.args.rows.now c.rows.row-index c.rows.files.items _
     c.deref.result.now c.rows-test.false c.rows.invariant.files c.sort_unstable_by_key.ensures.permutation
@@ -68,8 +71,9 @@ returns-clause-same c =
 
 pub returns-clause-overlaps : goal.returns-clause-overlaps
 returns-clause-overlaps c =
-    rows_least c.args.b.now.order c.args.b.now.bytes.now c.args.rows.now c.deref.result.now c.rows.extents.items
-    c.add_files.new.extents.items (lists_are c.args.b.now.order c.args.b.now.bytes.now c.args.rows.now
+    rows_least c.args.b.now.order c.args.b.now.bytes.now c.args.rows.now c.deref.result.now
+    (expanded c.rows.extents.items) (expanded c.add_files.new.extents.items)
+    (lists_are c.args.b.now.order c.args.b.now.bytes.now c.args.rows.now
     c.rows.row-index c.rows.extents.items c.rows-test.false c.rows.invariant.lists)
     (files_sorted c.args.b.now.order c.args.b.now.bytes.now c.args.rows.now c.rows.row-index c.rows.files.items _
     c.deref.result.now c.rows-test.false c.rows.invariant.files c.sort_unstable_by_key.ensures.permutation

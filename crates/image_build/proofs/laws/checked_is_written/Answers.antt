@@ -21,7 +21,7 @@ either : {A B C : Type 0} → (B → C) → A ⊎ B → A ⊎ C
 either f (inl a) = inl a
 either f (inr b) = inr (f b)
 
-without : {passed : Type 0} (padding : Padding) → padding.len ≡ 0 → (known : Option (List (List ℕ)))
+without : {passed : Option (List ℕ) → Type 0} (padding : Padding) → padding.len ≡ 0 → (known : Option (List (List ℕ)))
     → (was is : List Answer → Type 0) → (p : Planned) → (old new : Option (List ℕ))
     → IsCheckedImage passed padding known was is p old new → IsImageWritten known was is p old new
 without padding none known was is p old new w =

@@ -1,9 +1,9 @@
-use Rattle.std.proofs.Common.{◌≡◌, ◌+◌, max, true, sym, ap, ◌∙◌, arith, Ok, Err}
+use Rattle.std.proofs.Common.{◌≡◌, ◌+◌, max, Bool, true, sym, ap, ◌∙◌, arith, Ok, Err}
 use Rattle.elf_format.specs.Loading.{loaded}
 use Rattle.elf_format.specs.declared.error.ElfError.TheVariants as elf
 use Rattle.elf_format.specs.declared.program.Program.{Program}
 use Rattle.program_pages.specs.declared.counting.ProgramPages.{ProgramPages}
-use Rattle.program_pages.specs.Counted.{flash_at, is_refused, segment_pages}
+use Rattle.program_pages.specs.Counted.{flash_at, is_linked, is_refused, segment_pages}
 use Rattle.program_pages.proofs.Sums.{some_refused, none_then, some_then, sums_more, load_more, found, loads, refuses}
 use Rattle.program_pages.proofs.counting.program_pages.Goals as goal
 
@@ -24,7 +24,7 @@ returns-in_default-clause-is c =
     let h = c.in-Ok.header in
     let r : is_refused (loaded c.args.size c.program-program.result) ≡ true =
     none_then (is_refused (loaded c.args.size c.program-program.result))
-    (segment_pages f c.args.no_mmu c.args.start c.args.size c.program-program.result)
+    (segment_pages f c.args.no_mmu c.args.start c.args.size c.is_linked-linked.result c.program-program.result)
     (sym c.in_default.is ∙ c.segment.ensures.is) in
     refuses f c.args.no_mmu c.args.start c.args.size b h
     (some_refused c.args.size b h c.loop-index.index h.count c.loop-index-test.true
@@ -39,13 +39,18 @@ loop-index-preserved c =
     let h = c.in-Ok.header in
     let i = c.loop-index.invariant in
     let s = some_then (is_refused (loaded c.args.size c.program-program.result))
-    (segment_pages f c.args.no_mmu c.args.start c.args.size c.program-program.result) c.in-Some.more
-    c.in-Some.ensures.is in
+    (segment_pages f c.args.no_mmu c.args.start c.args.size c.is_linked-linked.result c.program-program.result)
+    c.in-Some.more c.in-Some.ensures.is in
+    let t : c.in-Some.more
+    ≡ segment_pages f c.args.no_mmu c.args.start c.args.size (is_linked c.args.no_mmu b h) c.program-program.result =
+    s.1
+    ∙ ap (λ (v : Bool). segment_pages f c.args.no_mmu c.args.start c.args.size v c.program-program.result)
+    c.is_linked-linked.ensures in
     let e = c.plus-pages.ensures in
     let m = c.in-Some.ensures in
     record {
       sums = sums_more f c.args.no_mmu c.args.start c.args.size b h c.loop-index.index c.loop-index.pages
-          c.in-Some.more c.plus-pages.result c.program-program.result e c.program-program.ensures s.1 i.sums;
+          c.in-Some.more c.plus-pages.result c.program-program.result e c.program-program.ensures t i.sums;
       load = load_more c.args.size b h c.loop-index.index c.program-program.result c.program-program.ensures s.0 i.load;
       in_place = (
           let k : c.plus-pages.result.in_place ≡ c.loop-index.pages.in_place + c.in-Some.more.in_place =

@@ -16,7 +16,7 @@ invariant_of-prepared c = record {
   count =
       ap length c.in_ok-plan.ensures.sizes ∙ ap length c.deref-2.ensures.value ∙ ap length c.in_ok-sizes.ensures
       ∙ length-map c.deref.result.now (λ s. s.len) ∙ ap length c.deref.ensures.value ∙ c.in_ok-stamps.ensures
-      ∙ opened_count (λ n. n.now) c.args.names.now (option_map (λ d. d.now) c.args.asked.sources)
+      ∙ opened_count (λ n. n.now) c.args.names.now (option_map (λ d. d.now) c.args.asked.wanted.sources)
       (sources_of c.args.origin.manifest.now.lines) c.requires;
   sizes =
       c.in_ok-plan.ensures.sizes ∙ c.deref-2.ensures.value ∙ c.in_ok-sizes.ensures
