@@ -2,10 +2,12 @@
 
 refuse.c refuses the Nth allocation, for N = 1, 2, .. up to the first that a run does not make; and then all from the Nth on. Each
 run answers as it does with ample memory, or prints `memory` on standard error with status 3 and nothing else. A run without words,
-which prints two answers, may have printed the first. Left out are large cases, and runs whose memory the case limits.
+which prints two answers, may have printed the first, and `check --each` prints `memory` in place of a report. Left out are large
+cases, and runs whose memory the case limits.
 """
 
 import os
+import re
 import resource
 import struct
 import subprocess
@@ -28,9 +30,25 @@ def is_run(case):
     return not (case.get("large") or case.get("once") or case.get("no_root") and os.geteuid() == 0)
 
 
+def reports_of(out):
+    """Returns the report of each image that `check --each` printed, by the line with its name."""
+    return {it[0]: it[0] + it[1] for it in re.findall(rb"(?m)^(image .*\n)((?:(?!image ).*\n)*)", out)}
+
+
+def is_each_well(whole, got):
+    """Returns whether `check --each` reports of each image what it does with ample memory, or prints `memory` in place of that."""
+    out, err, status = got
+    theirs, reports = reports_of(whole[0]), reports_of(out)
+    lines = err.splitlines()
+    is_told = status == 3 and b"memory" in lines and {*lines} <= {b"memory", *whole[1].splitlines()}
+    return is_told and b"".join(reports.values()) == out and all(it in (name, theirs.get(name)) for name, it in reports.items())
+
+
 def is_well(words, whole, got):
     """Returns whether a run that had memory refused answers as the whole one, or `memory` in place of an answer."""
     out, *how = got
+    if "--each" in words and got != whole:
+        return is_each_well(whole, got)
     is_first = not words and out.endswith(b"\n") and whole[0].startswith(out)
     return got == whole or ((*how,) == REFUSED[1:] and (out == b"" or is_first))
 
