@@ -548,6 +548,15 @@ def wrong_words(mounter):
         mounter.counts.equal("an image that may not be read", (done.returncode, b"Permission denied" in done.stderr), (3, True))
 
 
+def said_at(leader):
+    """Returns all that a program which has ended printed at a terminal."""
+    told = b""
+    with os.fdopen(leader, "rb", buffering=0) as terminal, contextlib.suppress(OSError):
+        while piece := terminal.read(4096):
+            told += piece
+    return told
+
+
 def at_a_terminal(mounter):
     """Words at a terminal: a fault is explained as in docs/FAULTS.md, and no byte of a name is a command for the terminal."""
     short, foreign = mounter.top + "/short", mounter.top + "/none\x1b[31m"
@@ -558,8 +567,7 @@ def at_a_terminal(mounter):
         with subprocess.Popen([mounter.program, name, mounter.folder], stdout=subprocess.PIPE, stderr=follower) as running:
             os.close(follower)
             printed = running.communicate(timeout=SECONDS)[0]
-            with os.fdopen(leader, "rb", buffering=0) as terminal:
-                told = terminal.read(4096)
+        told = said_at(leader)
         wanted = (f"romtool-mount: {said}\r\n".encode(), b"fault 2 Short at 0\n" if name == short else b"")
         mounter.counts.equal(f"{name!r} at a terminal", (told, printed), wanted)
 
