@@ -48,8 +48,8 @@ CASES = {
         "--one-file-system": "test_edge_scan.py::test_on_one_file_system[scan]", "--strict": SCAN, "--explain": "scan/scan-a-file",
     },
     "extract": {
-        "--align": READING, "--owners": "test_extract.py::test_owners[words0-1-4095]", "--no-sync": "test_extract.py::test_no_syncs",
-        "--max-size": MOST, "--explain": "info/info-and-extract-words",
+        "--align": "options/alignment-of-an-extracted-program", "--owners": "test_extract.py::test_owners[words0-1-4095]",
+        "--no-sync": "test_extract.py::test_no_syncs", "--max-size": MOST, "--explain": "info/info-and-extract-words",
     },
     "version": {"--explain": "program/usage-version-word"},
 }  # fmt: skip
