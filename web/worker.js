@@ -1,5 +1,6 @@
 // The page's worker: it has the image, and answers what the page asks. `Reader` and what belongs to it come from
-// reader.mjs, and MODULE is the bytes of the WebAssembly module; tools/page puts all into one script.
+// reader.mjs, the rules for programs from programs.mjs, and MODULE is the bytes of the WebAssembly module; tools/page
+// puts all into one script.
 
 const PART = 1 << 22;        // how much of a file is read at a time
 const SHOWN = 256;           // how many bytes of a file or around a fault are shown
@@ -88,7 +89,7 @@ function contents(path) {
 
 // Goes on with the walk through the tree, and tells which bytes are whose.
 function pieces() {
-  walk ??= { open: [], first: true, count: { bytes: 0, kinds: Array(8).fill(0) } };
+  walk ??= { open: [], first: true, programs: [], count: { bytes: 0, kinds: Array(8).fill(0) } };
   const found = [], add = (at, len, what, path) => { if (len) found.push([at, len, what, path]); };
   const kinds = walk.count.kinds, root = new Uint8Array([47]);
   if (walk.first) {
@@ -109,13 +110,32 @@ function pieces() {
     if (stat.kind === 3) { const { at, len } = reader.readlinkNode(node); add(at, len, "link", name); }
     if (stat.kind === 2) {
       walk.count.bytes += stat.size;
-      for (const { at, len } of runs(reader.openNode(node))) add(at, len, "data", name);
+      const places = runs(reader.openNode(node));
+      for (const { at, len } of places) add(at, len, "data", name);
+      note(name, stat.size, places[0]);
     }
   }
   return { found, seen, more: walk.open.length > 0, count: walk.count };
 }
 
-const CALLS = { open, entries, details, contents, pieces };
+// The bytes of the image.
+const image = () => reader.bytes.subarray(reader.data, reader.data + reader.accessible);
+
+// Keeps a file for `programs` if it is a program for a machine with or without an MMU. `run` is the first run of its bytes.
+function note(path, size, run) {
+  if (run && isProgram(image().subarray(run.at, run.at + run.len), true)) {
+    walk.programs.push({ path, start: run.at, len: run.len, size });
+  }
+}
+
+// What Linux does with the programs that the walk came to, in the order of the list.
+function programs(how) {
+  const bytes = image(), found = walk.programs;
+  return found.filter(({ start, len }) => isProgram(bytes.subarray(start, start + len), how.noMmu))
+    .map((it) => ({ path: it.path, at: it.start, ...verdictOf(bytes, it, how) }));
+}
+
+const CALLS = { open, entries, details, contents, pieces, programs };
 
 onmessage = async ({ data: { id, call, words } }) => {
   try {
