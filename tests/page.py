@@ -406,7 +406,7 @@ def program_words(browser, binary, top, counts):
                 wanted = "/prog %s in place %s pages in place, %s copied, %s of zeros" % tuple(line[2:])
             else:
                 means = re.search(r"^\| `%s` \| (.*) \|$" % line[3], repository_text("docs/PROTOCOL.md"), re.M)[1]
-                wanted = "/prog %s not in place %s: %s Pages that are copied: %s." % (line[2], line[3], told_by_page(means), line[4])
+                wanted = "/prog %s not in place %s pages copied; %s: %s" % (line[2], line[4], line[3], told_by_page(means))
             counts.equal("words about a program of %s from %r on" % (form, base), shown, [wanted])
         browser.value("at('no-mmu').checked = false")
         type_base(browser, "")

@@ -264,7 +264,7 @@ function programRow(it) {
   } else {
     const why = made("span");
     withCode(why, REASONS[it.reason]);
-    words.append(`${it.reason}: `, why, ` Pages that are copied: ${number(it.pages)}.`);
+    words.append(`${number(it.pages)} pages copied; ${it.reason}: `, why);
   }
   item.append(made("b", it.path), " ", address(it.at), " ");
   item.append(made("span", isIn ? "in place" : "not in place", { className: isIn ? "good" : "bad" }), " ", words);
