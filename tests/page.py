@@ -6,7 +6,8 @@
 A good image of each format is given to the page: its verdict, facts, tree, picture and contents are those of romtool, and
 its addresses those of `map --base`; an address that cannot be is refused in words. Then images with a fault, whose cause and
 cure are the words of docs/FAULTS.md, and files that are no image; a directory of many names, which may not stop the page,
-large images, and one that is dropped. Which programs are executed in place is compared with `xip`, on the images of tests/xip.py.
+large images, and one that is dropped. Which programs are executed in place is compared with `xip`, on the images of tests/xip.py,
+and what Linux misreads with `linux`, on those of the cases and of random manifests.
 The page is used by keys only, and on a display of 390 points; what a screen reader reads has names; its colours have contrast
 in light and in dark; nothing is asked from outside, and nothing fails unseen. The last line is `N passed, M failed`, with
 `, K skipped` if there is no Chromium.
@@ -20,12 +21,15 @@ import subprocess
 import sys
 import tempfile
 import time
+import unicodedata
 
 import c
+import manifests
 import xip
 from files import bytes_in, put, repository_text, wait_until
 from harness import HERE, Counts, missing, parser, program_of
-from romtool import entries, pieces_of, run
+from romtool import entries, pieces_of, raw, run
+from run import files_of_cases
 
 BROWSERS = ("chromium", "chromium-browser", "google-chrome")
 # for how many seconds the page may work on an image
@@ -252,7 +256,7 @@ def bad_images(browser, binary, top, counts):
     damaged = {"changed": bytes(held), "short": bytes(held[:50]), "empty": b"", "cut": bytes(held[:4000])}
     others = {"no-image": b"\x7fELF" + bytes(100), "text": b"hello\n", "zeros": bytes(70000), "almost": b"-rom1fs" + bytes(90)}
     damaged.update(others)
-    parts = "['tree-part', 'programs-part', 'picture-part'].filter((id) => !at(id).hidden)"
+    parts = "['tree-part', 'programs-part', 'misreads-part', 'picture-part'].filter((id) => !at(id).hidden)"
     for name, image in damaged.items():
         put(os.path.join(top, name), image)
         browser.give(os.path.join(top, name))
@@ -271,7 +275,7 @@ def bad_images(browser, binary, top, counts):
         counts.equal("explanation of " + name, seen, [False, "Offset: %d 0x%08x" % (place, place)])
     browser.give(os.path.join(top, "cramfs"))
     seen = browser.value("[at('explained').hidden, at('place').textContent, %s.length]" % parts)
-    counts.equal("nothing of the fault is left", seen, [True, "", 3])
+    counts.equal("nothing of the fault is left", seen, [True, "", 4])
 
 
 def many_names(browser, binary, top, counts):
@@ -412,6 +416,75 @@ def program_words(browser, binary, top, counts):
         type_base(browser, "")
 
 
+# manifests of images in which Linux misreads something; a source is named by its number
+LONG = {it: "n" * it for it in (127, 128, 129, 150, 200)}
+MISREAD = {
+    "romfs": ["volume " + LONG[150], *("file /%s 0644 0 0 16 source0" % it for it in LONG.values()), "hard /short /" + LONG[200],
+              "hard /too /" + LONG[128], "nod /device 0600 0 0 c 5000 7", "nod /other 0600 0 0 b 4095 65535"],
+    "cramfs": ["dir / 0700 0 0", *("file /s%d 0644 0 0 4 source%d" % (it, it) for it in range(3)), "same /t0 0600 0 0 /s0",
+               "same /t1 0644 0 0 /s1", "nod /other 0600 0 0 b 255 255"],
+}  # fmt: skip
+MISREAD["cramfs-be"] = MISREAD["cramfs"]
+KINDS_MISREAD = 10
+
+
+def shown(path):
+    """Returns an escaped path as the page shows it: decoded if all of it is visible UTF-8."""
+    try:
+        whole = raw(path).decode("utf-8")
+    except UnicodeDecodeError:
+        return path
+    return path if any(unicodedata.category(it)[0] == "C" or unicodedata.category(it) in ("Zl", "Zp") for it in whole) else whole
+
+
+def misread_images(binary, room):
+    """Yields the images: of the cases, of the manifests above, and of random ones."""
+    yield from (held for _, held in files_of_cases(most=1 << 20))
+    made = [manifests.Manifest(form, lines, [b"x", b"y" * 4096, b"z" * 4097]) for form, lines in MISREAD.items()]
+    for one in [*made, *map(manifests.Made, range(40))]:
+        manifests.build(binary, one, room).check_returncode()
+        yield bytes_in(os.path.join(room, "image"))
+
+
+def misread(browser, binary, top, counts):
+    """What Linux misreads: the lines of `linux`, with the words of docs/LINUX.md."""
+    room, seen, wrong, kinds, words = os.path.join(top, "misread"), set(), [], set(), None
+    os.mkdir(room)
+    told = re.findall(r"^\| `(\d+ \w+)` \| \w+ \| (.*) \| (.*) \|$", repository_text("docs/LINUX.md"), re.M)
+    words = {name: (told_by_page(linux), told_by_page(cure)) for name, linux, cure in told}
+    for number, held in enumerate(misread_images(binary, room)):
+        path = os.path.join(room, "image%d" % number)
+        put(path, held)
+        done = run(binary, "linux", path)
+        if held in seen or done.stderr:
+            continue
+        seen.add(held)
+        lines = [it.split(" ") for it in done.stdout.decode().splitlines()]
+        wanted = ["linux %s %s %s" % (it[1], it[2], shown(it[3])) for it in lines]
+        kinds |= {" ".join(it[1:3]) for it in lines}
+        if LONG[200].encode() in held:
+            put(os.path.join(top, "misread.img"), held)
+        browser.give(path)
+        while browser.value("picture.more"):
+            browser.value("walkOn()")
+        got = browser.value("misreads.map((it) => `linux ${it.number} ${MISREADS[it.number].name} ${it.path}`)")
+        if got != wanted:
+            wrong += ["image%d: %s, expected %s" % (number, *pair) for pair in zip(got, wanted) if pair[0] != pair[1]][:9]
+            wrong += ["image%d: %d lines, expected %d" % (number, len(got), len(wanted))]
+        said = browser.value("[at('misreads-line').textContent, at('misreads').textContent]")
+        count = "%d thing%s" % (len(lines), "s" * (len(lines) > 1)) if lines else "nothing"
+        if said[0] != "Linux misreads %s in this image, by the rules of romtool linux." % count:
+            wrong.append("image%d: %s" % (number, said[0]))
+        for name in {" ".join(it[1:3]) for it in lines}:
+            if not all(it in said[1] for it in (name, *words[name])):
+                wrong.append("image%d: %s, expected %s" % (number, said[1][:300], words[name]))
+    counts.result("what Linux misreads", wrong[:40])
+    counts.equal("kinds of what Linux misreads", sorted(kinds), sorted(words))
+    counts.equal("how many kinds", len(kinds), KINDS_MISREAD)
+    counts.equal("images that may be misread", len(seen) > 100, True)
+    print("page: what Linux misreads in %d images" % len(seen))
+
+
 DROP = """(() => {
   const given = new DataTransfer();
   given.items.add(new File([Uint8Array.from(%s)], "dropped"));
@@ -466,7 +539,7 @@ def for_readers(browser, counts):
     used = ("button", "slider", "textbox", "DisclosureTriangle", "link", "summary", "combobox")
     counts.equal("things without a name", [it for it in roles if it[0] in used and not it[1]], [])
     heads = [name for role, name in roles if role == "heading"]
-    wanted = {"romtool", "Image", "Verdict", "Facts", "Tree", "Programs in place", "Picture by offset"}
+    wanted = {"romtool", "Image", "Verdict", "Facts", "Tree", "Programs in place", "What Linux misreads", "Picture by offset"}
     counts.equal("headings", wanted - set(heads), set())
     counts.equal("a status", [role for role, _ in roles if role == "status"], ["status"])
     told = [it for it in nodes if it["role"]["value"] == "slider" and "value" in it]
@@ -510,7 +583,7 @@ def colours(browser, counts):
 # what scrolls by itself is left out
 CUT = """[...document.querySelectorAll("body *")].filter((it) => it.offsetParent && !it.closest("pre, .unseen")
   && [...it.childNodes].some((child) => child.nodeType === 3 && child.data.trim())
-  && (it.getBoundingClientRect().right > innerWidth || parseFloat(getComputedStyle(it).fontSize) < 12))
+  && (it.getBoundingClientRect().right > 390 || parseFloat(getComputedStyle(it).fontSize) < 12))
   .map((it) => it.textContent.slice(0, 40))"""
 # single words of a table that are broken into several lines
 BROKEN = """[...document.querySelectorAll("td, th")].filter((it) => {
@@ -526,7 +599,7 @@ def narrow(browser, top, counts):
     browser.call("Emulation.setDeviceMetricsOverride", **size)
     browser.call("Emulation.setTouchEmulationEnabled", enabled=True)
     type_base(browser, "0x08000000")
-    for name in ("cramfs", "changed", "no-image", "big.cramfs", "programs.romfs"):
+    for name in ("cramfs", "changed", "no-image", "big.cramfs", "programs.romfs", "misread.img"):
         browser.give(os.path.join(top, name))
         browser.value(OPEN_ALL)
         browser.value("document.querySelectorAll('details').forEach((it) => { it.open = true; })")
@@ -626,6 +699,7 @@ def main():
             dropped(browser, binary, top, counts)
             in_place(browser, binary, top, counts)
             program_words(browser, binary, top, counts)
+            misread(browser, binary, top, counts)
             narrow(browser, top, counts)
             colours(browser, counts)
             nothing_outside(browser, counts)

@@ -1,5 +1,6 @@
 // The page asks the worker, and shows its answers. FAULTS and SENTENCES are the tables of the code, by number; EXPLAINED
-// has place, cause and cure of each fault from docs/FAULTS.md, REASONS the meanings of those of `xip` from docs/PROTOCOL.md;
+// has place, cause and cure of each fault from docs/FAULTS.md, REASONS the meanings of those of `xip` from docs/PROTOCOL.md,
+// MISREADS name, explanation and cure of what Linux misreads from docs/LINUX.md;
 // WORKER is the text of the worker. tools/page puts them before this text.
 
 const ROWS = 500;            // how many rows of a directory or a table are shown at first, and then with each button
@@ -293,6 +294,33 @@ async function showPrograms() {
   morePrograms();
 }
 
+// ---- what Linux misreads
+
+let misreads = [];           // the number and the path of each
+
+// A kind of what Linux misreads, with its paths.
+function misreadItem(kind) {
+  const { name, linux, cure } = MISREADS[kind], item = made("li"), words = made("span", undefined, { className: "note" });
+  const paths = misreads.filter((it) => it.number === kind).map(({ path }) => path), list = made("ul");
+  withCode(words, `Linux ${linux}. ${cure.startsWith("not in") ? "It is" : "What to do:"} ${cure}.`);
+  list.append(...paths.slice(0, ROWS).map((path) => made("li", path)));
+  if (paths.length > ROWS) list.append(made("li", `and ${number(paths.length - ROWS)} more`, { className: "note" }));
+  item.append(made("b", `${kind} ${name}`), " ", words, list);
+  return item;
+}
+
+// Shows what Linux misreads in the names that the walk came to.
+async function showMisreads() {
+  const mine = picture, found = await ask("misreads");
+  if (mine !== picture) return;
+  misreads = found;
+  const count = misreads.length ? `${number(misreads.length)} thing${misreads.length > 1 ? "s" : ""}` : "nothing";
+  withCode(at("misreads-line"), `Linux misreads ${count} in ${mine.more ? "this part of the image" : "this image"}, by the rules of ` +
+    "`romtool linux`.");
+  at("misreads").replaceChildren(...Object.keys(MISREADS).map(Number)
+    .filter((kind) => misreads.some((it) => it.number === kind)).map(misreadItem));
+}
+
 // ---- the picture
 
 let picture;                 // what is drawn: the image's length, the pieces, the cell that is chosen
@@ -395,6 +423,7 @@ async function walkOn() {
   morePieces();
   choose(picture.chosen);
   await showPrograms();
+  await showMisreads();
 }
 
 // ---- an image
@@ -423,7 +452,7 @@ async function look(file) {
   at("tree").replaceChildren();
   at("walked").textContent = "";
   at("more-walk").hidden = at("more-pieces").hidden = true;
-  at("tree-part").hidden = at("programs-part").hidden = told.error !== 0;
+  at("tree-part").hidden = at("programs-part").hidden = at("misreads-part").hidden = told.error !== 0;
   at("picture-part").hidden = isNone(told);
   say(`${file.name}: ${at("line").textContent}`);
   choose(told.error === 14 ? Math.floor(told.at / picture.cell) : 0);
