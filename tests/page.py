@@ -17,6 +17,7 @@ import json
 import os
 import re
 import shutil
+import struct
 import subprocess
 import sys
 import tempfile
@@ -24,6 +25,7 @@ import time
 import unicodedata
 
 import c
+import images
 import manifests
 import xip
 from files import bytes_in, put, repository_text, wait_until
@@ -215,6 +217,11 @@ def addresses(browser, binary, top, counts):
             counts.equal("refusal of %r" % text, (text in said and why in said, said.endswith(count)), (True, True))
             seen = (browser.value("at('base').getAttribute('aria-invalid')"), browser.value(PLACES % "runs"))
             counts.equal("addresses after %r" % text, seen, ("true", shown))
+        again = "look(new File([new Uint8Array(9 << 20)], 'later')); at('base').dispatchEvent(new Event('change'))"
+        browser.value("delete document.documentElement.dataset.done; " + again)
+        browser.until("document.documentElement.dataset.done === 'later'", 9)
+        said = browser.value("at('status').textContent")
+        counts.equal("an address that is typed while an image is read", said, "later: fault 3 Magic at 0")
         # the next image does not keep an address that was accepted before
         browser.give(path)
         counts.equal("addresses of the next image", browser.value("hex(0)"), "0x00000000")
@@ -352,6 +359,17 @@ def total_shown(words, lines):
     return "total %d %d %d %d" % (of, mapped, copied, of - count)
 
 
+def ends_with(held):
+    """Returns a cramfs image that ends with the bytes of the file /prog, which begin with a page."""
+    entry = images.inode(0o100755, len(held), 76 + 16, b"prog")
+    blocks = -(-len(held) // xip.PAGE)
+    first = -(-(76 + len(entry) + 4 * blocks) // xip.PAGE) * xip.PAGE
+    body = entry + struct.pack("<%dI" % blocks, *(images.PLAIN | (first + xip.PAGE * it) // 4 for it in range(blocks)))
+    body += bytes(first - 76 - len(body)) + held
+    flags = images.WITH_SUM | images.SORTED | images.DIRECT_POINTERS
+    return images.cramfs(flags, images.inode(images.CRAMFS_DIRECTORY, len(entry), 76), body)
+
+
 def in_place(browser, binary, top, counts):
     """Which programs are executed in place: the lines of `xip` on the images that tests/xip.py makes and computes them for."""
     kept = os.path.join(top, "kept")
@@ -367,6 +385,14 @@ def in_place(browser, binary, top, counts):
         words = [os.path.join(HERE, "xip.py"), "--binary", os.path.join(top, "keeping"), "--here", name]
         done = c.said([sys.executable, *words], cwd=room)
         counts.equal("the images of " + name, done.returncode, 0, done.stdout.decode(errors="replace"))
+    # the image ends within the last page of a program, so this page is copied; zeros after the image are not in it
+    for size, behind in ((5000, 0), (5000, 10000), (8192, 0)):
+        image = ends_with(xip.elf(2, [(1, 5, 0, 0x10000, size, size)], size)) + bytes(behind)
+        put(os.path.join(top, "ends"), image)
+        told = c.said([os.path.join(top, "keeping"), "xip", "ends"], cwd=top).stdout.decode().splitlines()[0]
+        mapped = size // xip.PAGE
+        wanted = "xip /prog 0x00001000 %d %d 0" % (mapped, -(-size // xip.PAGE) - mapped)
+        counts.equal("an image that ends with a program of %d bytes" % size, told, wanted)
     seen, wrong = set(), []
     for one in sorted(os.listdir(kept)):
         image, words, told = (bytes_in(os.path.join(kept, one, it)) for it in ("image", "words", "told"))
@@ -424,7 +450,7 @@ MISREAD = {
     "cramfs": ["dir / 0700 0 0", *("file /s%d 0644 0 0 4 source%d" % (it, it) for it in range(3)), "same /t0 0600 0 0 /s0",
                "same /t1 0644 0 0 /s1", "nod /other 0600 0 0 b 255 255"],
 }  # fmt: skip
-MISREAD["cramfs-be"] = MISREAD["cramfs"]
+MISREAD["cramfs-be"] = ["dir / 0711 0 0", *MISREAD["cramfs"][1:]]
 KINDS_MISREAD = 10
 
 

@@ -28,6 +28,7 @@ let worker, waiting = new Map(), asked = 0;
 function begin() {
   worker?.terminate();
   waiting = new Map();
+  picture = null;
   worker = new Worker(URL.createObjectURL(new Blob([WORKER], { type: "text/javascript" })));
   const calls = waiting;
   worker.onmessage = ({ data }) => {
@@ -280,8 +281,7 @@ function morePrograms() {
 
 // Shows the programs that the walk came to, as `romtool xip` has them.
 async function showPrograms() {
-  const mine = picture;
-  const how = { base, noMmu: at("no-mmu").checked, isRomfs: mine.told.format === "romfs" };
+  const mine = picture, how = { base, noMmu: at("no-mmu").checked, isRomfs: mine.told.format === "romfs" };
   const found = await ask("programs", how);
   if (mine !== picture) return;
   programs = found;
