@@ -1,7 +1,8 @@
 #!/usr/bin/env python3
 """Tests the tools of tools/, and the words of ./test: each edit of tests/edits/ can be applied, `./test --changed` finds the crates
 that a change concerns, and with another kit the tools run the toolchain's own `rt`. tools/try says what is missing, builds once for the
-same sources, and shows what the program prints (that of --binary). The last line is `N passed, M failed`.
+same sources, and shows what the program prints (that of --binary); docs/terminal.svg is a picture of it. The last line is
+`N passed, M failed`.
 """
 
 import glob
@@ -14,11 +15,14 @@ import subprocess
 import sys
 import tempfile
 import unittest.mock
+from xml.etree import ElementTree as tree
 
+import command_lines
 from files import put, text_of
 from harness import HERE, Counts, missing, parser
 from rooms import IS_ROOT, NOBODY
 
+SVG = "{http://www.w3.org/2000/svg}"
 TOOLS = os.path.realpath(os.path.join(HERE, "..", "tools"))
 sys.path.insert(0, TOOLS)
 
@@ -177,6 +181,23 @@ def try_example(binary, counts):
             found = re.findall(r"^xip /bin/\w+ (0x\w+) (\d+) \d+ \d+$", said, re.M)
             is_well = len(places) == 1 and places[0] % 4096 == 0 and [int(it[0], 16) for it in found] == places and int(found[0][1]) > 0
             counts.equal(f"the example of tools/try, user {user}", (status, is_well), (0, True), said)
+        try_terminal(said, counts)
+
+
+def try_terminal(said, counts):
+    """docs/terminal.svg is what tools/terminal makes of what tools/try prints, and has its lines. With another busybox than Debian's
+    its numbers are not compared."""
+    said = re.sub(r"^tools/try: missing: .*\n", "", said, flags=re.M)
+    made = subprocess.run([f"{TOOLS}/terminal"], input=said, capture_output=True, text=True).stdout
+    kept, texts = text_of(f"{TOOLS}/../docs/terminal.svg"), tree.fromstring(made).iter(f"{SVG}text")
+    shown = "".join(it.text + "\n" for it in texts if it.text)
+    counts.equal("the lines of tools/terminal", shown, re.sub(r"\n\n+", "\n", said))
+    if not re.search(r"^ok cramfs 8 2$", said, re.M) or not re.search(r"^\$ cp /usr/bin/busybox ", said, re.M):
+        counts.skips("docs/terminal.svg: there is no /usr/bin/busybox")
+    elif " 1982256 " in said:
+        counts.equal("docs/terminal.svg", kept, made)
+    else:
+        counts.equal("docs/terminal.svg", command_lines.unnamed_numbers(kept), command_lines.unnamed_numbers(made))
 
 
 def try_packages(counts):
@@ -198,7 +219,7 @@ def try_words(counts):
                           (["tools/install", "--help"], 0), (["tools/release", "--help"], 0), (["tools/completions.py"], 2),
                           (["tools/rom32", "--help"], 0), (["tools/rom32"], 2), (["tools/rom32", "i386"], 2),
                           (["tools/page", "--help"], 0), (["tools/manual", "--help"], 0), (["tools/embedded", "--help"], 0),
-                          (["tools/clauses", "--help"], 2), (["tools/goals", "--help"], 2)):  # fmt: skip
+                          (["tools/clauses", "--help"], 2), (["tools/goals", "--help"], 2), (["tools/terminal"], 2)):  # fmt: skip
         ran = subprocess.run([os.path.join(top, words[0]), *words[1:]], capture_output=True, text=True)
         counts.equal(" ".join(words), ran.returncode, status)
         counts.equal(" ".join(words) + " says its words", words[0] in ran.stdout + ran.stderr, True)

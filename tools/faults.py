@@ -12,6 +12,7 @@ from dataclasses import dataclass
 TOP = os.path.dirname(os.path.dirname(os.path.realpath(__file__)))
 NUMBERS = "crates/rom_faults/src/fault.rt"
 SENTENCES = "crates/sentences/src/faults.rt"
+EXPLAINED = "docs/FAULTS.md"
 FORMATS = ("romfs", "cramfs")
 COLUMNS = 100  # of a line of specs/
 CONSTANT = re.compile(r"((?:^///.*\n)+)pub const (\w+): u32 = (\d+);", re.M)
@@ -64,6 +65,31 @@ def of_format(name):
     """Returns the faults that docs/internals/FORMATS.md has for a format: their names by number."""
     section = text_of("docs/internals/FORMATS.md").partition(f"\n## {name}\n")[2].partition("\n## ")[0]
     return {int(number): fault for number, fault in re.findall(r"^\| (?:\w+ )?\| (\d+) (\w+) \|", section, re.M)}
+
+
+def plain(text):
+    """Returns a paragraph of a document in one line, without the marks of links and bold or slanted words; code keeps its marks."""
+    marks = r"(`[^`]*`)|\[([^]]*)\]\([^)]*\)|\*\*?([^*]+)\*\*?"
+    return re.sub(marks, lambda it: it[1] or it[2] or it[3], " ".join(text.split()))
+
+
+def explanations():
+    """Returns where each fault is, its cause and what to do, by numbers, from docs/FAULTS.md. What it says of most faults is the cause
+    of those for which it has no other one, and comes before a cause that begins with `Also`; so is what to do if nothing else is said.
+    Raises ValueError if the document lacks the part that it says of most faults."""
+    text = text_of(EXPLAINED)
+    most = re.search(r"^(In most cases .*?\.)\sThen\s(.*?\.)\sBelow are more causes\.$", text, re.M | re.S)
+    if not most:
+        raise ValueError(f"{EXPLAINED}: what it says of most faults is missing")
+    usual, cure = (plain(it) for it in most.groups())
+    found = {}
+    for number, body in re.findall(r"^### (\d+) \w+\n\n> [^\n]*\n\n(.*?)(?=^###? |\Z)", text, re.M | re.S):
+        place, _, rest = body.partition("*What to do.*")
+        place, _, cause = place.partition("*Cause.*")
+        cause = plain(cause)
+        cause = f"{usual} {cause}" if cause.startswith("Also") else cause or usual
+        found[int(number)] = {"place": plain(place), "cause": cause, "cure": plain(rest) or cure[0].upper() + cure[1:]}
+    return found
 
 
 # ---- the parts

@@ -1,5 +1,6 @@
 // The page's worker: it has the image, and answers what the page asks. `Reader` and what belongs to it come from
-// reader.mjs, and MODULE is the bytes of the WebAssembly module; tools/page puts all into one script.
+// reader.mjs, the rules for programs from programs.mjs, those of what Linux misreads from linux.mjs, and MODULE is the bytes
+// of the WebAssembly module; tools/page puts all into one script.
 
 const PART = 1 << 22;        // how much of a file is read at a time
 const SHOWN = 256;           // how many bytes of a file or around a fault are shown
@@ -9,7 +10,7 @@ const WORKED = 200;          // for how many milliseconds a call works before it
 const ready = Reader.of(MODULE);
 const text = new TextDecoder("utf-8", { fatal: true });
 const rows = new Map();      // of each directory that was asked for, the entries that are still to come
-let reader, walk;
+let reader, format, walk;
 
 // A name or a text as it is shown: bytes that are not UTF-8 or not visible are escaped.
 function shown(bytes) {
@@ -34,6 +35,7 @@ async function open(file) {
     }
   }
   const began = performance.now(), told = reader.check();
+  format = told.format;
   return { ...told, length: file.size, milliseconds: performance.now() - began, around: around(told.at, file.size) };
 }
 
@@ -88,13 +90,16 @@ function contents(path) {
 
 // Goes on with the walk through the tree, and tells which bytes are whose.
 function pieces() {
-  walk ??= { open: [], first: true, count: { bytes: 0, kinds: Array(8).fill(0) } };
+  walk ??= { open: [], first: true, programs: [], misreads: [], rules: new Misreads(image, format),
+    count: { bytes: 0, kinds: Array(8).fill(0) } };
   const found = [], add = (at, len, what, path) => { if (len) found.push([at, len, what, path]); };
   const kinds = walk.count.kinds, root = new Uint8Array([47]);
   if (walk.first) {
     walk.open.push({ path: root, coming: reader.entries(reader.open(root)) });
     kinds[1]++;
     walk.first = false;
+    const { node } = reader.lookup(root);
+    misread("/", [...walk.rules.ofVolume(), ...walk.rules.ofName(node, reader.statNode(node), [])]);
   }
   const began = performance.now();
   let seen = 0;
@@ -106,16 +111,43 @@ function pieces() {
     kinds[stat.kind]++;
     add(entry.at, entry.name.length, "name", name);
     if (stat.kind === 1) walk.open.push({ path: whole, coming: reader.entries(reader.openNode(node)) });
-    if (stat.kind === 3) { const { at, len } = reader.readlinkNode(node); add(at, len, "link", name); }
+    const link = stat.kind === 3 ? reader.readlinkNode(node) : null;
+    if (link) add(link.at, link.len, "link", name);
+    misread(name, walk.rules.ofName(node, stat, entry.name, link?.bytes));
     if (stat.kind === 2) {
       walk.count.bytes += stat.size;
-      for (const { at, len } of runs(reader.openNode(node))) add(at, len, "data", name);
+      const places = runs(reader.openNode(node));
+      for (const { at, len } of places) add(at, len, "data", name);
+      note(name, stat.size, places[0]);
     }
   }
   return { found, seen, more: walk.open.length > 0, count: walk.count };
 }
 
-const CALLS = { open, entries, details, contents, pieces };
+// The bytes of the image.
+const image = () => reader.bytes.subarray(reader.data, reader.data + reader.accessible);
+
+// Keeps a file for `programs` if it is a program for a machine with or without an MMU. `run` is the first run of its bytes.
+function note(path, size, run) {
+  if (run && isProgram(image().subarray(run.at, run.at + run.len), true)) {
+    walk.programs.push({ path, start: run.at, len: run.len, size });
+  }
+}
+
+// Keeps the numbers of what Linux misreads in a name.
+function misread(path, numbers) { for (const number of numbers) walk.misreads.push({ number, path }); }
+
+// What Linux misreads in the names that the walk came to, in the order of the list.
+const misreads = () => walk.misreads;
+
+// What Linux does with the programs that the walk came to, in the order of the list.
+function programs(how) {
+  const bytes = image(), found = walk.programs;
+  return found.filter(({ start, len }) => isProgram(bytes.subarray(start, start + len), how.noMmu))
+    .map((it) => ({ path: it.path, at: it.start, ...verdictOf(bytes, it, how) }));
+}
+
+const CALLS = { open, entries, details, contents, pieces, programs, misreads };
 
 onmessage = async ({ data: { id, call, words } }) => {
   try {
