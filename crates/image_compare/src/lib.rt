@@ -23,11 +23,13 @@ mod digests;
 mod dump;
 mod hashing;
 mod holder;
+mod known;
 pub mod laws;
 mod line;
 mod lines;
 mod name;
 mod rows;
+mod same;
 mod steps;
 
 pub use comparing::first_difference;
