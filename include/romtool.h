@@ -196,7 +196,8 @@ uint32_t romtool_library_version(void);
 
 /* Checks `len` bytes as a romfs or cramfs image, and opens it. Returns 0; or ROMTOOL_FAULT or ROMTOOL_MEMORY, and then
  * `image` is closed. `root` is then the node of the path `/`. For n references, the time is n log n, and the memory
- * about 100 bytes for each. An image has at most 1,048,576 references and 64 names on a path. */
+ * about 100 bytes for each; in cramfs also up to 24 bytes for each block that does not follow the one before it in its
+ * file. An image has at most 1,048,576 references and 64 names on a path. */
 uint32_t romtool_check(struct romtool_image *image, const uint8_t *data, romtool_size len)
     ROMTOOL_SYMBOL("romtool_check");
 

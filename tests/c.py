@@ -37,8 +37,10 @@ import tempfile
 
 import explain
 import formats
+import images
 import run
 from harness import HERE, SECONDS, Counts, missing, parser, program_of
+from images import BLOCK
 
 TOP = os.path.join(HERE, "..")
 INCLUDE = os.path.join(TOP, "include")
@@ -503,7 +505,7 @@ def on_aarch64(binary, top, numbers, counts):
         reader(top, archive, numbers, counts, "aarch64-linux-gnu-gcc", ["qemu-aarch64"])
 
 
-def images(top):
+def images_of_cases(top):
     """Returns the images of the cases, each once, in files of a directory; and the files' names."""
     held = {}
     for _, case in run.named_cases(TOPICS):
@@ -519,10 +521,30 @@ def images(top):
     return found
 
 
+def room_of(areas, name, image, top):
+    """Returns how many bytes of an area the check of an image needs that has no fault."""
+    with open(os.path.join(top, name), "wb") as file:
+        file.write(image)
+    line = said([areas, name], cwd=top).stdout.split()
+    return int(line[2]) if line[1:2] == [b"0"] else None
+
+
+def rooms_of_blocks(areas, top, counts):
+    """The room of a check of a file of 256 blocks, in order and in reverse: 12 to 24 bytes more for each that does not follow."""
+    flags, count = images.WITH_SUM | images.SORTED | images.DIRECT_POINTERS, 256
+    names = images.inode(images.CRAMFS_REGULAR, BLOCK * count, 92, b"a")
+    root, rooms = images.inode(images.CRAMFS_DIRECTORY, len(names), 76), []
+    for first, step in (BLOCK, BLOCK), (BLOCK * count, -BLOCK):
+        body = (names + images.pointers(first, count, step)).ljust(BLOCK - 76, b"\0") + bytes(BLOCK * count)
+        rooms.append(room_of(areas, "blocks", images.cramfs(flags, root, body), top))
+    are_right = None not in rooms and rooms[0] < 1000 and 12 * 255 <= rooms[1] - rooms[0] <= 24 * 255
+    counts.equal("the rooms of 256 blocks in order and in reverse: %s" % rooms, are_right, True)
+
+
 def heaps(binary, top, refused, areas, counts):
     """Checks over a heap that refuses, and over areas that are exactly large enough."""
     os.mkdir(top + "/images")
-    names = images(top + "/images")
+    names = images_of_cases(top + "/images")
     names += ["../" + form for form in FORMATS]
     how = {"cwd": top + "/images", "stdout": subprocess.PIPE, "stderr": subprocess.STDOUT}
     told = [subprocess.run([binary, "check", it], **how) for it in names]
@@ -543,6 +565,7 @@ def heaps(binary, top, refused, areas, counts):
         counts.equal("areas", (done.returncode, lines[-1][-6:]), (0, b" steps"))
         for name, line, want in zip(names, lines, wanted):
             counts.equal("an area that is just large enough: %s" % name, line.split()[1], want)
+        rooms_of_blocks(areas, top, counts)
 
 
 def on_old_processor(binary, top, counts):

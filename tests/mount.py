@@ -211,7 +211,7 @@ def cases(mounter):
     """The images of the cases."""
     folder = os.path.join(mounter.top, "images")
     os.mkdir(folder)
-    accepted = [it for it in c.images(folder) if judge(mounter, os.path.join(folder, it))]
+    accepted = [it for it in c.images_of_cases(folder) if judge(mounter, os.path.join(folder, it))]
     mounter.counts.equal("images that are accepted", len(accepted) > 50, True)
 
 

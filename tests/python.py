@@ -356,7 +356,7 @@ def main():
             return counts.close()
         own_tests(binary, shared, counts)
         os.mkdir(top + "/images")
-        images(binary, shared, top + "/images", c.images(top + "/images"), counts)
+        images(binary, shared, top + "/images", c.images_of_cases(top + "/images"), counts)
         build_all(binary, top, counts)
         images(binary, shared, top, c.FORMATS, counts)
         for form in c.FORMATS:

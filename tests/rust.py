@@ -242,7 +242,7 @@ def main():
             counts.fails("the example", done.stdout.decode(errors="replace").splitlines()[-20:])
             return counts.close()
         os.mkdir(top + "/images")
-        images(binary, answers, top + "/images", c.images(top + "/images"), counts)
+        images(binary, answers, top + "/images", c.images_of_cases(top + "/images"), counts)
         c.build_all(binary, top, counts)
         images(binary, answers, top, c.FORMATS, counts)
     return counts.close()
