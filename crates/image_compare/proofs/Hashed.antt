@@ -1,6 +1,6 @@
 -- The bytes of a file's runs, hashed one after the other.
 use Rattle.std.proofs.Common.{◌≡◌, ℕ, ◌+◌, ◌-◌, List, ◌++◌, length, take, drop, length-take, length-drop, Some}
-use Rattle.std.proofs.Common.{sym, ap, ◌∙◌, subst, arith, min}
+use Rattle.std.proofs.Common.{sym, ap, ◌∙◌, arith, min}
 use Rattle.std.specs.Prelude.{slice_index}
 use Rattle.std.proofs.Math.Seq.{take-add}
 use Rattle.std.proofs.lemmas.List.{get_or-take, get_or-drop, take-map, drop-map}

@@ -6,3 +6,5 @@ pub mod Paths
 pub mod Digests
 pub mod Differences
 pub mod Holders
+pub mod Known
+pub mod Same

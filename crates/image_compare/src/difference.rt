@@ -3,14 +3,17 @@ ghost use Rattle.std.specs.Prelude.{◌≡◌, ◌+◌, ◌<◌, ◌≤◌, ◌|
 ghost use Rattle.std.specs.Bool.{OnTrue, OnFalse};
 ghost use Rattle.rom_tree.specs.Tree.{IsShallow};
 ghost use Rattle.rom_tree.specs.Names.{Name};
+ghost use Rattle.image_check.specs.Any.{any_view};
 ghost use Rattle.image_compare.specs.Diff.{names_lines};
 ghost use Rattle.image_compare.specs.Endings.{DiffEnds, WritesLines};
 ghost use Rattle.image_compare.specs.Rows.{AreKnown, AreRows};
+ghost use Rattle.image_compare.specs.Same.{AreSame};
 
 use crate::rows::{NoRows, Row, rows_of};
+use crate::same::Same;
 use crate::steps::put_step;
+use image_check::AnyImage;
 use rom_fields::{ByteWrite, Failed};
-use rom_tree::TreeImage;
 use std::alloc::Global;
 use thiserror::Error;
 
@@ -44,20 +47,22 @@ fn either(one: bool, other: bool) -> bool
 }
 
 /// Writes the lines of two lists of rows, and returns whether there are any.
-fn write_lines<'a, T: TreeImage<'a>, W: ByteWrite>(
-    old: &T,
-    new: &T,
+fn write_lines<W: ByteWrite>(
+    old: &AnyImage<'_>,
+    new: &AnyImage<'_>,
+    same: &mut Same,
     places: bool,
     xs: &[Row],
     ys: &[Row],
     w: &mut W,
 ) -> Result<bool, Failed>
-    requires old { AreKnown (T.image old.now) xs.now }
-    requires new { AreKnown (T.image new.now) ys.now }
-    ensures { (ps qs : List Name) → AreRows (T.image old.now) xs.now ps
-        → AreRows (T.image new.now) ys.now qs
+    requires old { AreKnown (any_view old.now) xs.now }
+    requires new { AreKnown (any_view new.now) ys.now }
+    requires same { AreSame (any_view old.now) (any_view new.now) same.old }
+    ensures { (ps qs : List Name) → AreRows (any_view old.now) xs.now ps
+        → AreRows (any_view new.now) ys.now qs
         → WritesLines (W.output w.old) (W.output w.new)
-        (names_lines places (T.image old.now).bytes (T.image new.now).bytes ps qs) result }
+        (names_lines places (any_view old.now).bytes (any_view new.now).bytes ps qs) result }
 {
     let mut printed = false;
     let mut failed = false;
@@ -67,7 +72,7 @@ fn write_lines<'a, T: TreeImage<'a>, W: ByteWrite>(
         if are_over(&xs[i..], &ys[j..]) {
             return Ok(printed);
         }
-        let step = put_step(old, new, places, w, &mut failed, &xs[i..], &ys[j..]);
+        let step = put_step(old, new, same, places, w, &mut failed, &xs[i..], &ys[j..]);
         i += step.old;
         j += step.new;
         printed = either(printed, step.printed);
@@ -86,23 +91,24 @@ fn write_lines<'a, T: TreeImage<'a>, W: ByteWrite>(
 /// - `@ PATH OLD NEW` if `places` is true and a file's first byte is at another offset, where OLD
 ///   and NEW are `0x` and eight hexadecimal digits.
 ///
-/// PATH is escaped as in a list.
+/// PATH is escaped as in a list. Bytes that names share are compared once if memory is there to
+/// keep the answer.
 ///
 /// # Errors
 ///
 /// `OutOfMemory` if memory was refused, and `LongPath` if a path has more than 16,384 bytes. Then
 /// nothing was written. `WriteFault` if a write failed. Then a prefix of the lines was written.
-pub fn write_diff<'a, T: TreeImage<'a>, W: ByteWrite>(
+pub fn write_diff<W: ByteWrite>(
     alloc: Global,
-    old: &T,
-    new: &T,
+    old: &AnyImage<'_>,
+    new: &AnyImage<'_>,
     places: bool,
     w: &mut W,
 ) -> Result<bool, DiffError>
-    requires old { IsShallow (T.image old.now).tree }
-    requires new { IsShallow (T.image new.now).tree }
-    ensures { DiffEnds places (T.image old.now) (T.image new.now) (W.output w.old) (W.output w.new)
-        result }
+    requires old { IsShallow (any_view old.now).tree }
+    requires new { IsShallow (any_view new.now).tree }
+    ensures { DiffEnds places (any_view old.now) (any_view new.now) (W.output w.old)
+        (W.output w.new) result }
 {
     let xs = match rows_of(alloc, old) {
         Ok(rows) => rows,
@@ -114,7 +120,8 @@ pub fn write_diff<'a, T: TreeImage<'a>, W: ByteWrite>(
         Err(NoRows::OutOfMemory) => return Err(DiffError::OutOfMemory),
         Err(NoRows::LongPath) => return Err(DiffError::LongPath),
     };
-    match write_lines(old, new, places, xs.as_slice(), ys.as_slice(), w) {
+    let mut same = Same::new(alloc, old, new);
+    match write_lines(old, new, &mut same, places, xs.as_slice(), ys.as_slice(), w) {
         Ok(printed) => Ok(printed),
         Err(_) => Err(DiffError::WriteFault),
     }

@@ -13,7 +13,8 @@
 //!
 //! Proved: `write_digests` writes exactly that text, or a prefix of it if the writer failed or a
 //! path is too long. `write_image_digest` writes the line of the image itself. Contents are hashed
-//! in the image, without a copy. Nothing here allocates memory.
+//! in the image, without a copy. `write_digests` and `write_diff` keep what they found of larger
+//! files, for other names that share their bytes, as long as memory is there.
 #![tactic(auto)]
 
 mod comparing;
@@ -23,11 +24,13 @@ mod digests;
 mod dump;
 mod hashing;
 mod holder;
+mod known;
 pub mod laws;
 mod line;
 mod lines;
 mod name;
 mod rows;
+mod same;
 mod steps;
 
 pub use comparing::first_difference;

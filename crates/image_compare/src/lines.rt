@@ -6,12 +6,15 @@ ghost use Rattle.rom_fields.specs.Written.{Puts, sink};
 ghost use Rattle.rom_tree.specs.Listing.{kind_letter};
 ghost use Rattle.rom_tree.specs.Tree.{Node, kind_of};
 ghost use Rattle.rom_tree.specs.Image.{image_node, HasNode, contents_of};
+ghost use Rattle.image_check.specs.Any.{any_view};
 ghost use Rattle.image_compare.specs.Diff.{added_line, alike_lines, attributes_line};
 ghost use Rattle.image_compare.specs.Diff.{attributes_text};
 ghost use Rattle.image_compare.specs.Diff.{contents_line, is_printed, moved_line, node_lines};
 ghost use Rattle.image_compare.specs.Diff.{removed_line, same_attributes, start_line, start_of};
+ghost use Rattle.image_compare.specs.Same.{AreSame};
 
-use crate::contents::have_same_bytes;
+use crate::same::Same;
+use image_check::AnyImage;
 use image_info::put_eight_digits;
 use rom_fields::{ByteWrite, put, put_decimal, put_escaped, put_octal};
 use rom_tree::{Kind, NodeId, Stat, TreeImage, is_regular_at};
@@ -120,28 +123,31 @@ fn put_contents<W: ByteWrite>(w: &mut W, failed: &mut bool, path: &[u8], old: u3
 }
 
 /// Puts the line of contents that differ, and returns whether they do.
-fn put_compared<'a, T: TreeImage<'a>, W: ByteWrite>(
-    old: &T,
-    new: &T,
+fn put_compared<W: ByteWrite>(
+    old: &AnyImage<'_>,
+    new: &AnyImage<'_>,
+    same: &mut Same,
     w: &mut W,
     failed: &mut bool,
     path: &[u8],
     nodes: (NodeId, NodeId),
 ) -> bool
-    requires old { HasNode (T.image old.now) nodes.0.0 }
-    requires new { HasNode (T.image new.now) nodes.1.0 }
-    ensures puts { (p q : Node) → image_node (T.image old.now) nodes.0.0 ≡ Some p
-        → image_node (T.image new.now) nodes.1.0 ≡ Some q
+    requires old { HasNode (any_view old.now) nodes.0.0 }
+    requires new { HasNode (any_view new.now) nodes.1.0 }
+    requires same { AreSame (any_view old.now) (any_view new.now) same.old }
+    ensures same { AreSame (any_view old.now) (any_view new.now) same.new }
+    ensures puts { (p q : Node) → image_node (any_view old.now) nodes.0.0 ≡ Some p
+        → image_node (any_view new.now) nodes.1.0 ≡ Some q
         → Puts (sink (W.output w.old) failed.old) (sink (W.output w.new) failed.new)
-        (contents_line path.now (contents_of (T.image old.now).bytes p)
-        (contents_of (T.image new.now).bytes q)) }
-    ensures printed { (p q : Node) → image_node (T.image old.now) nodes.0.0 ≡ Some p
-        → image_node (T.image new.now) nodes.1.0 ≡ Some q
-        → result ≡ is_printed (contents_line path.now (contents_of (T.image old.now).bytes p)
-        (contents_of (T.image new.now).bytes q)) }
+        (contents_line path.now (contents_of (any_view old.now).bytes p)
+        (contents_of (any_view new.now).bytes q)) }
+    ensures printed { (p q : Node) → image_node (any_view old.now) nodes.0.0 ≡ Some p
+        → image_node (any_view new.now) nodes.1.0 ≡ Some q
+        → result ≡ is_printed (contents_line path.now (contents_of (any_view old.now).bytes p)
+        (contents_of (any_view new.now).bytes q)) }
 {
     let (x, y) = nodes;
-    if have_same_bytes(old, new, x, y) {
+    if same.have(old, new, x, y) {
         return false;
     }
     put_contents(w, failed, path, old.stat(x).size, new.stat(y).size);
@@ -237,55 +243,61 @@ fn any(one: bool, two: bool, three: bool) -> bool
 }
 
 /// Puts the lines of two nodes of one kind, and returns whether there are any.
-fn put_alike<'a, T: TreeImage<'a>, W: ByteWrite>(
-    old: &T,
-    new: &T,
+fn put_alike<W: ByteWrite>(
+    old: &AnyImage<'_>,
+    new: &AnyImage<'_>,
+    same: &mut Same,
     places: bool,
     w: &mut W,
     failed: &mut bool,
     path: &[u8],
     nodes: (NodeId, NodeId),
 ) -> bool
-    requires old { HasNode (T.image old.now) nodes.0.0 }
-    requires new { HasNode (T.image new.now) nodes.1.0 }
-    ensures puts { (p q : Node) → image_node (T.image old.now) nodes.0.0 ≡ Some p
-        → image_node (T.image new.now) nodes.1.0 ≡ Some q
+    requires old { HasNode (any_view old.now) nodes.0.0 }
+    requires new { HasNode (any_view new.now) nodes.1.0 }
+    requires same { AreSame (any_view old.now) (any_view new.now) same.old }
+    ensures same { AreSame (any_view old.now) (any_view new.now) same.new }
+    ensures puts { (p q : Node) → image_node (any_view old.now) nodes.0.0 ≡ Some p
+        → image_node (any_view new.now) nodes.1.0 ≡ Some q
         → Puts (sink (W.output w.old) failed.old) (sink (W.output w.new) failed.new)
-        (alike_lines places (T.image old.now).bytes (T.image new.now).bytes path.now p q) }
-    ensures printed { (p q : Node) → image_node (T.image old.now) nodes.0.0 ≡ Some p
-        → image_node (T.image new.now) nodes.1.0 ≡ Some q → result ≡ is_printed
-        (alike_lines places (T.image old.now).bytes (T.image new.now).bytes path.now p q) }
+        (alike_lines places (any_view old.now).bytes (any_view new.now).bytes path.now p q) }
+    ensures printed { (p q : Node) → image_node (any_view old.now) nodes.0.0 ≡ Some p
+        → image_node (any_view new.now) nodes.1.0 ≡ Some q → result ≡ is_printed
+        (alike_lines places (any_view old.now).bytes (any_view new.now).bytes path.now p q) }
 {
     let (x, y) = nodes;
     let changed = put_changed(w, failed, path, old.stat(x), new.stat(y));
-    let rewritten = put_compared(old, new, w, failed, path, nodes);
+    let rewritten = put_compared(old, new, same, w, failed, path, nodes);
     let moved = put_places(old, new, places, w, failed, path, nodes);
     any(changed, rewritten, moved)
 }
 
 /// Puts the lines of a path at which both images have a node, and returns whether there are any.
-pub(crate) fn put_nodes<'a, T: TreeImage<'a>, W: ByteWrite>(
-    old: &T,
-    new: &T,
+pub(crate) fn put_nodes<W: ByteWrite>(
+    old: &AnyImage<'_>,
+    new: &AnyImage<'_>,
+    same: &mut Same,
     places: bool,
     w: &mut W,
     failed: &mut bool,
     path: &[u8],
     nodes: (NodeId, NodeId),
 ) -> bool
-    requires old { HasNode (T.image old.now) nodes.0.0 }
-    requires new { HasNode (T.image new.now) nodes.1.0 }
-    ensures puts { (p q : Node) → image_node (T.image old.now) nodes.0.0 ≡ Some p
-        → image_node (T.image new.now) nodes.1.0 ≡ Some q
+    requires old { HasNode (any_view old.now) nodes.0.0 }
+    requires new { HasNode (any_view new.now) nodes.1.0 }
+    requires same { AreSame (any_view old.now) (any_view new.now) same.old }
+    ensures same { AreSame (any_view old.now) (any_view new.now) same.new }
+    ensures puts { (p q : Node) → image_node (any_view old.now) nodes.0.0 ≡ Some p
+        → image_node (any_view new.now) nodes.1.0 ≡ Some q
         → Puts (sink (W.output w.old) failed.old) (sink (W.output w.new) failed.new)
-        (node_lines places (T.image old.now).bytes (T.image new.now).bytes path.now p q) }
-    ensures printed { (p q : Node) → image_node (T.image old.now) nodes.0.0 ≡ Some p
-        → image_node (T.image new.now) nodes.1.0 ≡ Some q → result ≡ is_printed
-        (node_lines places (T.image old.now).bytes (T.image new.now).bytes path.now p q) }
+        (node_lines places (any_view old.now).bytes (any_view new.now).bytes path.now p q) }
+    ensures printed { (p q : Node) → image_node (any_view old.now) nodes.0.0 ≡ Some p
+        → image_node (any_view new.now) nodes.1.0 ≡ Some q → result ≡ is_printed
+        (node_lines places (any_view old.now).bytes (any_view new.now).bytes path.now p q) }
 {
     let (x, y) = nodes;
     if letter_of(old.stat(x).kind) == letter_of(new.stat(y).kind) {
-        return put_alike(old, new, places, w, failed, path, nodes);
+        return put_alike(old, new, same, places, w, failed, path, nodes);
     }
     put_removed(w, failed, path);
     put_added(w, failed, path);

@@ -3,12 +3,15 @@ ghost use Rattle.std.specs.Prelude.{◌≡◌, ◌+◌, ◌<◌, ◌≤◌, ◌�
 ghost use Rattle.rom_fields.specs.Written.{sink};
 ghost use Rattle.rom_tree.specs.Image.{image_node, HasNode};
 ghost use Rattle.rom_tree.specs.Names.{Name};
+ghost use Rattle.image_check.specs.Any.{any_view};
 ghost use Rattle.image_compare.specs.Rows.{AreKnown, AreRows, StepPuts};
+ghost use Rattle.image_compare.specs.Same.{AreSame};
 
 use crate::lines::{put_added, put_nodes, put_removed};
 use crate::rows::{Row, is_before};
+use crate::same::Same;
+use image_check::AnyImage;
 use rom_fields::ByteWrite;
-use rom_tree::TreeImage;
 
 /// The number of names that a step used of each list, and whether it put a line.
 #[derive(Clone, Copy)]
@@ -33,22 +36,25 @@ const ADDED: Step = Step {
 };
 
 /// Puts the lines of the lesser of two paths, or of both if they are the same.
-fn put_lesser<'a, T: TreeImage<'a>, W: ByteWrite>(
-    old: &T,
-    new: &T,
+fn put_lesser<W: ByteWrite>(
+    old: &AnyImage<'_>,
+    new: &AnyImage<'_>,
+    same: &mut Same,
     places: bool,
     w: &mut W,
     failed: &mut bool,
     x: &Row,
     y: &Row,
 ) -> Step
-    requires old { HasNode (T.image old.now) x.now.node.0 }
-    requires new { HasNode (T.image new.now) y.now.node.0 }
+    requires old { HasNode (any_view old.now) x.now.node.0 }
+    requires new { HasNode (any_view new.now) y.now.node.0 }
+    requires same { AreSame (any_view old.now) (any_view new.now) same.old }
+    ensures same { AreSame (any_view old.now) (any_view new.now) same.new }
     ensures puts { (p q : Name) (ps qs : List Name) → x.now.path.items ≡ p.path
-        → image_node (T.image old.now) x.now.node.0 ≡ Some p.node
-        → y.now.path.items ≡ q.path → image_node (T.image new.now) y.now.node.0 ≡ Some q.node
+        → image_node (any_view old.now) x.now.node.0 ≡ Some p.node
+        → y.now.path.items ≡ q.path → image_node (any_view new.now) y.now.node.0 ≡ Some q.node
         → StepPuts (sink (W.output w.old) failed.old) (sink (W.output w.new) failed.new) places
-        (T.image old.now).bytes (T.image new.now).bytes (p ∷ ps) (q ∷ qs) result }
+        (any_view old.now).bytes (any_view new.now).bytes (p ∷ ps) (q ∷ qs) result }
     ensures old_one { result.old ≤ 1 }
     ensures new_one { result.new ≤ 1 }
     ensures some { 0 < result.old + result.new }
@@ -62,7 +68,7 @@ fn put_lesser<'a, T: TreeImage<'a>, W: ByteWrite>(
         return ADDED;
     }
     let nodes = (x.node, y.node);
-    let printed = put_nodes(old, new, places, w, failed, x.path.as_slice(), nodes);
+    let printed = put_nodes(old, new, same, places, w, failed, x.path.as_slice(), nodes);
     Step {
         old: 1,
         new: 1,
@@ -71,28 +77,31 @@ fn put_lesser<'a, T: TreeImage<'a>, W: ByteWrite>(
 }
 
 /// Puts the lines of the next names of both lists, at least one of which is not empty.
-pub(crate) fn put_step<'a, T: TreeImage<'a>, W: ByteWrite>(
-    old: &T,
-    new: &T,
+pub(crate) fn put_step<W: ByteWrite>(
+    old: &AnyImage<'_>,
+    new: &AnyImage<'_>,
+    same: &mut Same,
     places: bool,
     w: &mut W,
     failed: &mut bool,
     xs: &[Row],
     ys: &[Row],
 ) -> Step
-    requires old { AreKnown (T.image old.now) xs.now }
-    requires new { AreKnown (T.image new.now) ys.now }
+    requires old { AreKnown (any_view old.now) xs.now }
+    requires new { AreKnown (any_view new.now) ys.now }
     requires some { 0 < length xs.now + length ys.now }
-    ensures puts { (ps qs : List Name) → AreRows (T.image old.now) xs.now ps
-        → AreRows (T.image new.now) ys.now qs
+    requires same { AreSame (any_view old.now) (any_view new.now) same.old }
+    ensures same { AreSame (any_view old.now) (any_view new.now) same.new }
+    ensures puts { (ps qs : List Name) → AreRows (any_view old.now) xs.now ps
+        → AreRows (any_view new.now) ys.now qs
         → StepPuts (sink (W.output w.old) failed.old) (sink (W.output w.new) failed.new) places
-        (T.image old.now).bytes (T.image new.now).bytes ps qs result }
+        (any_view old.now).bytes (any_view new.now).bytes ps qs result }
     ensures within_old { result.old ≤ length xs.now }
     ensures within_new { result.new ≤ length ys.now }
     ensures some { 0 < result.old + result.new }
 {
     match (xs, ys) {
-        ([x, ..], [y, ..]) => put_lesser(old, new, places, w, failed, x, y),
+        ([x, ..], [y, ..]) => put_lesser(old, new, same, places, w, failed, x, y),
         ([x, ..], []) => {
             put_removed(w, failed, x.path.as_slice());
             REMOVED

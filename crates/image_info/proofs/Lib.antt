@@ -11,3 +11,5 @@ pub mod Walked
 pub mod Few
 pub mod Counted
 pub mod Joined
+pub mod Located
+pub mod Noted

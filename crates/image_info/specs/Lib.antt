@@ -9,3 +9,4 @@ pub mod Info
 pub mod Endings
 pub mod Description
 pub mod Images
+pub mod Data

@@ -7,7 +7,8 @@
 //! `specs/Map.antt`, and `cat` exactly a file's bytes; or a prefix of it if the writer failed, or
 //! nothing if memory was refused. `count_gaps` returns exactly the number that `specs/Gaps.antt`
 //! defines, over the extents that a check tests for overlaps (`laws::of_the_tree`). `laws` also has
-//! what a reader needs to know of runs. `map` and `cat` allocate no memory.
+//! what a reader needs to know of runs. `map` and `cat` allocate no memory. `data_of` returns two
+//! numbers that say where a node's bytes are (`specs/Data.antt`): nodes with equal ones share them.
 //!
 //! A caller of `map`, proved: library_tests/src/examples/mapped.rt. `cat` requires the number of a
 //! node of the image, which `path_walk::walk` returns.
@@ -21,6 +22,7 @@
 mod by_format;
 mod contents;
 mod counting;
+mod data;
 mod digits;
 mod info;
 pub mod laws;
@@ -37,6 +39,7 @@ mod tally;
 
 pub use by_format::{count_gaps, volume};
 pub use contents::cat;
+pub use data::{Data, LEAST_KEPT, data_of};
 pub use digits::put_eight_digits;
 pub use info::{InfoError, write_info};
 pub use mapping::map;

@@ -1,3 +1,4 @@
 mod Literal
 mod Rows
+mod Sets
 mod Steps

@@ -21,11 +21,11 @@ or_right : (a b : Bool) → (a || b) ≡ false → b ≡ false
 or_right true b e = absurd (cc)
 or_right false b e = e
 
-and_left : (a b : Bool) → (a && b) ≡ true → a ≡ true
+pub and_left : (a b : Bool) → (a && b) ≡ true → a ≡ true
 and_left true b e = refl
 and_left false b e = absurd (cc)
 
-and_right : (a b : Bool) → (a && b) ≡ true → b ≡ true
+pub and_right : (a b : Bool) → (a && b) ≡ true → b ≡ true
 and_right true b e = e
 and_right false b e = absurd (cc)
 
@@ -54,22 +54,22 @@ parts_more (c ∷ cs) ps h =
 pub literal_parts : (text : List ℕ) → IsLiteral text → parts_of text ≡ Ok (map literal text)
 literal_parts text h = parts_more text [] h
 
-abbrev Read : Type 0
+abbrev pub Read : Type 0
 Read = Result (List Part) PatternError
 
-abbrev parts_in : Read → List Part
+abbrev pub parts_in : Read → List Part
 parts_in (Ok ps) = ps
 parts_in (Err e) = []
 
 same_parts : (r : Read) (a b : List Part) → r ≡ Ok a → r ≡ Ok b → a ≡ b
 same_parts r a b e k = sym (ap parts_in e) ∙ ap parts_in k
 
-abbrev negated : List Part → Bool
+abbrev pub negated : List Part → Bool
 negated [] = true
 negated (None ∷ ps) = true
 negated (Some p ∷ ps) = p.0
 
-abbrev ranges : List Part → List Range
+abbrev pub ranges : List Part → List Range
 ranges [] = []
 ranges (None ∷ ps) = []
 ranges (Some p ∷ ps) = p.1
@@ -82,14 +82,14 @@ or_false : (a : Bool) → (a || false) ≡ true → a ≡ true
 or_false true e = refl
 or_false false e = e
 
-same_here : (s : Set) (c d : ℕ) → s.is_negated ≡ false → s.ranges.items ≡ range c c ∷ [] → has s d ≡ true → d ≡ c
+pub same_here : (s : Set) (c d : ℕ) → s.is_negated ≡ false → s.ranges.items ≡ range c c ∷ [] → has s d ≡ true → d ≡ c
 same_here s c d plain is fit =
     let both : (leb c d && leb d c) ≡ true = or_false _ (sym (has_one s c d plain is) ∙ fit) in
     let below : c ≤ d = leb-true c d (and_left (leb c d) (leb d c) both) in
     let above : d ≤ c = leb-true d c (and_right (leb c d) (leb d c) both) in
     omega (arith, below, above)
 
-has_here : (s : Set) (c : ℕ) → s.is_negated ≡ false → s.ranges.items ≡ range c c ∷ [] → has s c ≡ true
+pub has_here : (s : Set) (c : ℕ) → s.is_negated ≡ false → s.ranges.items ≡ range c c ∷ [] → has s c ≡ true
 has_here s c plain is =
     let same : leb c c ≡ true = le-leb c c (omega arith) in
     has_one s c c plain is ∙ rw same refl

@@ -7,6 +7,7 @@
 #![tactic(auto)]
 
 mod finding;
+mod findings;
 mod lines;
 mod object;
 mod question;

@@ -1,5 +1,5 @@
 //! The report of an image.
-ghost use Rattle.std.specs.Prelude.{◌≡◌, ◌+◌, ◌≤◌, ◌^◌, IfOk, Some, length};
+ghost use Rattle.std.specs.Prelude.{◌≡◌, ◌+◌, ◌<◌, ◌≤◌, ◌^◌, IfOk, IfSome, Some, length};
 ghost use Rattle.rom_fields.specs.Failures.{Counts};
 ghost use Rattle.rom_fields.specs.Texts.{escaped};
 ghost use Rattle.rom_fields.specs.Written.{Puts, WritesText, sink};
@@ -8,10 +8,11 @@ ghost use Rattle.rom_tree.specs.Tree.{IsShallow, Node};
 ghost use Rattle.rom_tree.specs.Walks.{given_path};
 ghost use Rattle.image_check.specs.Any.{any_view};
 ghost use Rattle.program_report.specs.Found.{found_in};
-ghost use Rattle.program_report.specs.Lines.{node_lines, noted_if, programs_text, tally_warns};
+ghost use Rattle.program_report.specs.Lines.{node_lines, programs_text, tally_warns};
 ghost use Rattle.program_report.specs.Lines.{total_line, warns};
 
-use crate::finding::found_in;
+use crate::finding::Found;
+use crate::findings::Findings;
 use crate::lines::{put_found, put_total};
 use crate::object::put_other;
 use crate::question::Question;
@@ -19,31 +20,30 @@ use crate::tally::Tally;
 use image_check::AnyImage;
 use rom_fields::{ByteWrite, Failed};
 use rom_tree::{NodeId, Walk};
+use std::alloc::Global;
 
-/// Puts the lines of the node that a walk returned last, and notes it if it is a program.
+/// Puts the lines of the node that a walk returned last, of which this was found.
 fn put_name<'a, W: ByteWrite>(
     image: &AnyImage<'a>,
     question: &Question,
     w: &mut W,
     failed: &mut bool,
-    tally: &mut Tally,
     n: NodeId,
     walk: &Walk<'a>,
+    found: Option<Found>,
 )
     requires node { HasNode (any_view image.now) n.0 }
     requires fits { question.now.base + length (any_view image.now).bytes ≤ 2 ^ 64 }
-    ensures puts { (x : Node) → image_node (any_view image.now) n.0 ≡ Some x
+    requires found { (x : Node) → image_node (any_view image.now) n.0 ≡ Some x
+        → found ≡ found_in image.now question.now x }
+    requires within { IfSome found (λ f. f.start < length (any_view image.now).bytes) }
+    ensures { (x : Node) → image_node (any_view image.now) n.0 ≡ Some x
         → Puts (sink (W.output w.old) failed.old) (sink (W.output w.new) failed.new)
         (node_lines image.now question.now (escaped (given_path walk.now)) x
         (found_in image.now question.now x)) }
-    ensures notes { (x : Node) → image_node (any_view image.now) n.0 ≡ Some x
-        → tally.new ≡ noted_if tally.old (found_in image.now question.now x) }
 {
-    match found_in(image, question, n) {
-        Some(found) => {
-            put_found(w, failed, walk, question, &found);
-            *tally = tally.noted(&found);
-        }
+    match found {
+        Some(found) => put_found(w, failed, walk, question, &found),
         None => put_other(image, question, w, failed, n, walk),
     }
 }
@@ -84,10 +84,13 @@ fn finish<W: ByteWrite>(w: &mut W, tally: &Tally) -> Result<bool, Failed>
 ///   behind N bytes of zeros, fewer than a page;
 /// - `total PROGRAMS IN-PLACE COPIED NOT`, at the end.
 ///
+/// Bytes that files share are looked at once if memory is there to keep what was found.
+///
 /// # Errors
 ///
 /// `Failed` if a write failed. Then a prefix of the lines was written.
 pub fn write_programs<W: ByteWrite>(
+    alloc: Global,
     image: &AnyImage<'_>,
     question: &Question,
     w: &mut W,
@@ -99,6 +102,7 @@ pub fn write_programs<W: ByteWrite>(
     ensures count { Counts (W.output w.old).failures (W.output w.new).failures result }
     ensures warns { IfOk result (λ b. b ≡ warns image.now question.now) }
 {
+    let mut findings = Findings::new(alloc, image, question);
     let mut tally = Tally::NONE;
     let mut failed = false;
     let mut walk = Walk::new();
@@ -106,7 +110,9 @@ pub fn write_programs<W: ByteWrite>(
         let Some(node) = walk.next(image) else {
             return finish(w, &tally);
         };
-        put_name(image, question, w, &mut failed, &mut tally, node, &walk);
+        let found = findings.of(image, question, node);
+        put_name(image, question, w, &mut failed, node, &walk, found);
+        tally = tally.noted_if(found);
     }
     Err(Failed)
 }

@@ -1,6 +1,6 @@
 //! The totals of a report.
 ghost use Rattle.std.specs.Prelude.{◌≡◌};
-ghost use Rattle.program_report.specs.Lines.{noted, tally_warns};
+ghost use Rattle.program_report.specs.Lines.{noted, noted_if, tally_warns};
 
 use crate::finding::{Found, Verdict, is_shared};
 
@@ -49,6 +49,16 @@ impl Tally {
                 not: self.not.saturating_add(1),
                 shared: self.shared,
             },
+        }
+    }
+
+    /// Returns the totals with one program more, if one was found.
+    pub(crate) fn noted_if(&self, found: Option<Found>) -> Tally
+        ensures { result ≡ noted_if self.now found }
+    {
+        match found {
+            Some(found) => self.noted(&found),
+            None => *self,
         }
     }
 

@@ -1,22 +1,24 @@
 //! The digests of the files of an image, or that of the image.
 ghost use Rattle.std.specs.Prelude.{◌≤◌};
 ghost use Rattle.rom_tree.specs.Tree.{IsShallow};
+ghost use Rattle.image_check.specs.Any.{any_view};
 ghost use Rattle.rom_commands.specs.Ends.{Ends, Writes};
 ghost use Rattle.rom_commands.specs.Texts.{IsDigest, IsDigests, NeverStops, StopsDigests};
 
 use crate::ending::Ending;
 use crate::inspected::end;
+use image_check::AnyImage;
 use image_compare::{DigestError, write_digests, write_image_digest};
 use rom_fields::ByteWrite;
-use rom_tree::TreeImage;
+use std::alloc::Global;
 
 /// Writes the digests of the files of an image.
-fn write_all<'a, T: TreeImage<'a>, W: ByteWrite>(image: &T, w: &mut W) -> Ending<'a>
-    requires { IsShallow (T.image image.now).tree }
-    ensures { Writes (IsDigests (T.image image.now)) (StopsDigests (T.image image.now))
+fn write_all<W: ByteWrite>(alloc: Global, image: &AnyImage<'_>, w: &mut W) -> Ending<'static>
+    requires { IsShallow (any_view image.now).tree }
+    ensures { Writes (IsDigests (any_view image.now)) (StopsDigests (any_view image.now))
         (W.output w.old) (W.output w.new) result }
 {
-    match write_digests(image, w) {
+    match write_digests(alloc, image, w) {
         Ok(()) => Ending::Done,
         Err(DigestError::LongPath) => Ending::LongPath,
         Err(DigestError::WriteFault) => Ending::WriteFault,
@@ -36,16 +38,17 @@ fn write_one<W: ByteWrite>(bytes: &[u8], w: &mut W) -> Ending<'static>
 /// Prints the digests of the files of an image to `out`, each a line as `sha256sum` has it, and
 /// flushes it. Returns `Done`. Otherwise `err` says why: `WriteFault` if a write or the flush
 /// failed, and `LongPath` if the path of a regular file has more than 16,384 bytes.
-pub fn print_digests<'a, T: TreeImage<'a>, W: ByteWrite, E: ByteWrite>(
-    image: &T,
+pub fn print_digests<W: ByteWrite, E: ByteWrite>(
+    alloc: Global,
+    image: &AnyImage<'_>,
     out: &mut W,
     err: &mut E,
-) -> Ending<'a>
-    requires { IsShallow (T.image image.now).tree }
-    ensures { Ends (IsDigests (T.image image.now)) (StopsDigests (T.image image.now))
+) -> Ending<'static>
+    requires { IsShallow (any_view image.now).tree }
+    ensures { Ends (IsDigests (any_view image.now)) (StopsDigests (any_view image.now))
         (W.output out.old) (W.output out.new) (E.output err.old) (E.output err.new) result }
 {
-    let printed = write_all(image, out);
+    let printed = write_all(alloc, image, out);
     end(out, err, printed)
 }
 

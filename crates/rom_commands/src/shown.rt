@@ -144,7 +144,7 @@ fn write_sound<W: ByteWrite>(
             Err(_) => Err(InfoError::WriteFault),
         },
         Asked::Misreads => misreads(alloc, image, w),
-        Asked::Programs(question) => match write_programs(image, &question, w) {
+        Asked::Programs(question) => match write_programs(alloc, image, &question, w) {
             Ok(warned) => Ok(warned),
             Err(_) => Err(InfoError::WriteFault),
         },

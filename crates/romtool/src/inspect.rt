@@ -270,13 +270,14 @@ pub fn numbers(
 pub fn digest(reporter: &Reporter<'_>, asked: Digest<'_>) -> Result<Status, Status> {
     let loaded = loaded_data(reporter, asked.image)?;
     let image = checked(reporter, asked.image, &loaded.bytes)?;
+    let alloc = reporter.rt.alloc();
     let (mut out, mut err) = (output(reporter)?, errors(reporter.rt));
     let ending = if asked.whole {
         print_image_digest(image.bytes(), &mut out, &mut err)
     } else if reporter.rt.stdout().is_terminal() {
-        print_digests(&image, &mut terminal(reporter)?, &mut err)
+        print_digests(alloc, &image, &mut terminal(reporter)?, &mut err)
     } else {
-        print_digests(&image, &mut out, &mut err)
+        print_digests(alloc, &image, &mut out, &mut err)
     };
     reporter.finish(err, ending, b"");
     Ok(ending.status())

@@ -1,13 +1,14 @@
 use Rattle.std.proofs.Common.{List, sym, subst}
 use Rattle.rom_tree.specs.Image.{Image}
+use Rattle.image_check.specs.Any.{any_view}
 use Rattle.image_compare.specs.declared.rows.Row.{Row}
 use Rattle.image_compare.specs.Rows.{AreRows}
 use Rattle.image_compare.proofs.difference.write_diff.Goals as goal
 
 pub returns-in-Ok-write_lines : goal.returns-in-Ok-write_lines
 returns-in-Ok-write_lines g c =
-    let m : Image = g.T.Viewed.image c.args.old.now in
-    let n : Image = g.T.Viewed.image c.args.new.now in
+    let m : Image = any_view c.args.old.now in
+    let n : Image = any_view c.args.new.now in
     let h = c.in-Ok.ensures.ok in
     let k = c.in-Ok-rows_of.ensures.ok in
     let P : List Row → Type 0 = λ v. AreRows m v h.names in

@@ -1,4 +1,4 @@
-use Rattle.std.proofs.Common.{◌≡◌, ℕ, ◌+◌, ◌-◌, ◌≤◌, length, take, length-take, arith, subst, min, rules}
+use Rattle.std.proofs.Common.{◌≡◌, ℕ, ◌-◌, ◌≤◌, length, take, length-take, arith, subst, min, rules}
 use Rattle.std.proofs.lemmas.List.{places}
 use Rattle.image_compare.specs.Differences.{Passes}
 use Rattle.image_compare.proofs.Dumps.{passes_more}

@@ -1,6 +1,5 @@
-use Rattle.std.proofs.Common.{◌≡◌, List, ℕ, ap, ◌∙◌, subst}
+use Rattle.std.proofs.Common.{List, ℕ, ap, ◌∙◌, subst}
 use Rattle.hex.specs.Hex.{encode_lower}
-use Rattle.sha2.specs.Sha256.{sha256}
 use Rattle.rom_fields.specs.Written.{Puts, sink}
 use Rattle.rom_fields.proofs.Joins.{chain}
 use Rattle.image_compare.specs.Digests.{sum_line}

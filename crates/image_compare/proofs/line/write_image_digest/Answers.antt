@@ -1,7 +1,7 @@
-use Rattle.std.proofs.Common.{◌≡◌, ◌++◌, List, ℕ, ap, ◌∙◌, codes, subst}
+use Rattle.std.proofs.Common.{◌≡◌, List, ℕ, ap, ◌∙◌, codes, subst}
 use Rattle.hex.specs.Hex.{encode_lower}
 use Rattle.sha2.specs.Sha256.{sha256}
-use Rattle.rom_fields.specs.Written.{Puts, Sink, sink}
+use Rattle.rom_fields.specs.Written.{Puts, Sink}
 use Rattle.rom_fields.proofs.Joins.{chain, said_ok, said_front, said_rose, said_quiet}
 use Rattle.image_compare.specs.Digests.{input_line}
 use Rattle.image_compare.proofs.line.write_image_digest.Goals as goal

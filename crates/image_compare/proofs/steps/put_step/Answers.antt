@@ -1,31 +1,31 @@
-use Rattle.std.proofs.Common.{◌≡◌, ◌∷◌, [], List, refl, sym, subst, ◌∙◌, arith, length, ◌<◌, true, rules}
+use Rattle.std.proofs.Common.{◌≡◌, ◌∷◌, [], List, sym, subst, ◌∙◌, arith, length, ◌<◌, true, rules}
 use Rattle.rom_tree.specs.Image.{Image}
 use Rattle.rom_tree.specs.Names.{Name}
 use Rattle.rom_tree.proofs.Named.{has_node}
 use Rattle.rom_fields.specs.Written.{sink}
+use Rattle.image_check.specs.Any.{any_view}
 use Rattle.image_compare.specs.Rows.{StepPuts}
 use Rattle.image_compare.proofs.Stepped.{first_of, none_left, step_old, step_new}
 use Rattle.image_compare.proofs.steps.put_step.Goals as goal
 
 pub put_lesser-requires : goal.put_lesser-requires
-put_lesser-requires g c κs =
-    let m : Image = g.T.Viewed.image c.args.old.now in
-    let n : Image = g.T.Viewed.image c.args.new.now in
+put_lesser-requires g c =
+    let m : Image = any_view c.args.old.now in
+    let n : Image = any_view c.args.new.now in
     let kx : 0 < length c.args.xs.now = search rules in
     let ky : 0 < length c.args.ys.now = search rules in
     let x = first_of m c.args.xs.now c.requires.old.0 c.x-item-2.result c.requires.old.1 kx c.x-item-2.is in
-    let y = first_of n c.args.ys.now c.requires.new.0 c.y-item-2.result c.requires.new.1 ky c.y-item-2.is in (
-      (refl, tt),
-      (
-        has_node m c.x-item-2.result.node.0 x.name.node x.node,
-        has_node n c.y-item-2.result.node.0 y.name.node y.node,
-      ),
-    )
+    let y = first_of n c.args.ys.now c.requires.new.0 c.y-item-2.result c.requires.new.1 ky c.y-item-2.is in
+    record {
+      old = has_node m c.x-item-2.result.node.0 x.name.node x.node;
+      new = has_node n c.y-item-2.result.node.0 y.name.node y.node;
+      same = c.requires.same;
+    }
 
 pub returns-in-len1-up-len1-up-clause-puts : goal.returns-in-len1-up-len1-up-clause-puts
 returns-in-len1-up-len1-up-clause-puts g c = λ ps qs d e.
-    let m : Image = g.T.Viewed.image c.args.old.now in
-    let n : Image = g.T.Viewed.image c.args.new.now in
+    let m : Image = any_view c.args.old.now in
+    let n : Image = any_view c.args.new.now in
     let kx : 0 < length c.args.xs.now = search rules in
     let ky : 0 < length c.args.ys.now = search rules in
     let x = first_of m c.args.xs.now ps c.x-item-2.result d kx c.x-item-2.is in
@@ -41,8 +41,8 @@ returns-in-len1-up-len1-up-clause-puts g c = λ ps qs d e.
 
 pub returns-in-len1-up-empty-clause-puts : goal.returns-in-len1-up-empty-clause-puts
 returns-in-len1-up-empty-clause-puts g c = λ ps qs d e.
-    let m : Image = g.T.Viewed.image c.args.old.now in
-    let n : Image = g.T.Viewed.image c.args.new.now in
+    let m : Image = any_view c.args.old.now in
+    let n : Image = any_view c.args.new.now in
     let kx : 0 < length c.args.xs.now = search rules in
     let ky : length c.args.ys.now ≡ 0 = search (rules, arith) in
     let x = first_of m c.args.xs.now ps c.x-item.result d kx c.x-item.is in
@@ -58,8 +58,8 @@ returns-in-len1-up-empty-clause-puts g c = λ ps qs d e.
 
 pub returns-in-empty-len1-up-clause-puts : goal.returns-in-empty-len1-up-clause-puts
 returns-in-empty-len1-up-clause-puts g c = λ ps qs d e.
-    let m : Image = g.T.Viewed.image c.args.old.now in
-    let n : Image = g.T.Viewed.image c.args.new.now in
+    let m : Image = any_view c.args.old.now in
+    let n : Image = any_view c.args.new.now in
     let kx : length c.args.xs.now ≡ 0 = search (rules, arith) in
     let ky : 0 < length c.args.ys.now = search rules in
     let y = first_of n c.args.ys.now qs c.y-item.result e ky c.y-item.is in

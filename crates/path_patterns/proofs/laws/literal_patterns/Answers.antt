@@ -1,4 +1,3 @@
-use Rattle.std.proofs.Common.{map}
 use Rattle.path_patterns.proofs.Literal as literal
 use Rattle.path_patterns.proofs.laws.literal_patterns.Goals as goal
 

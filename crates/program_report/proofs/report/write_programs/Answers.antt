@@ -12,7 +12,7 @@ use Rattle.rom_tree.proofs.Listed.{fewer}
 use Rattle.image_check.specs.Any.{any_view}
 use Rattle.program_report.specs.declared.tally.Tally.{Tally}
 use Rattle.program_report.specs.Found.{found_in}
-use Rattle.program_report.specs.Lines.{name_lines, node_lines, nothing, programs_text, tally_from, tally_of}
+use Rattle.program_report.specs.Lines.{name_lines, node_lines, nothing, noted_if, programs_text, tally_from, tally_of}
 use Rattle.program_report.specs.Lines.{tally_warns}
 use Rattle.program_report.specs.Lines.{total_line, warns}
 use Rattle.program_report.proofs.Walked.{more_texts, last_texts, writes_after, counts_after}
@@ -23,6 +23,7 @@ unfolding tally_of
 loop-failed-init g c =
     let m : Image = any_view c.args.image.now in
     record {
+      findings = c.new-findings.ensures;
       walk = c.new-walk.ensures.walk m c.requires.shallow;
       done = [];
       puts = puts_nothing _;
@@ -33,7 +34,12 @@ loop-failed-init g c =
 pub put_name-requires : goal.put_name-requires
 put_name-requires g c =
     let n = c.in-Some.ensures.given in
-    record { node = has_node (any_view c.args.image.now) c.in-Some.node.0 n.name.node n.node; fits = c.requires.fits }
+    record {
+      node = has_node (any_view c.args.image.now) c.in-Some.node.0 n.name.node n.node;
+      fits = c.requires.fits;
+      found = c.of-found.ensures.is;
+      within = c.of-found.ensures.within;
+    }
 
 pub loop-failed-preserved : goal.loop-failed-preserved
 loop-failed-preserved g c =
@@ -46,8 +52,9 @@ loop-failed-preserved g c =
     let old = sink (g.W.ByteWrite.output c.loop-failed.w) c.loop-failed.failed in
     let new = sink (g.W.ByteWrite.output c.put_name.new.w) c.put_name.new.failed in
     let P : List ℕ → Type 0 = λ v. Puts old new (node_lines a q (escaped v) n.name.node (found_in a q n.name.node)) in
-    let t : Puts old new (line n.name) = subst P n.path (c.put_name.ensures.puts n.name.node n.node) in
+    let t : Puts old new (line n.name) = subst P n.path (c.put_name.ensures n.name.node n.node) in
     record {
+      findings = c.of-found.ensures.known;
       walk = c.in-Some.ensures.walk;
       done = i.done ++ line n.name;
       puts = chain i.puts t;
@@ -55,7 +62,8 @@ loop-failed-preserved g c =
           more_texts line i.done (flat_map line (names m.tree)) n.name (to_come m c.loop-failed.walk)
           (to_come m c.next.new.self) n.first i.rest;
       total =
-          ap (λ (v : Tally). tally_from a q v (to_come m c.next.new.self)) (c.put_name.ensures.notes n.name.node n.node)
+          ap (λ (v : Tally). tally_from a q v (to_come m c.next.new.self)) (c.noted_if-tally.ensures
+          ∙ ap (noted_if c.loop-failed.tally) (c.of-found.ensures.is n.name.node n.node))
           ∙ (sym (ap (tally_from a q c.loop-failed.tally) n.first) ∙ i.total);
     }
 

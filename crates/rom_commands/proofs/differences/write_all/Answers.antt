@@ -1,6 +1,7 @@
 use Rattle.std.proofs.Common.{◌≡◌, [], ap, inl, inr, refl, sym, subst, ◌∙◌, List, ℕ}
 use Rattle.std.specs.Prelude.{◌⊎◌}
 use Rattle.rom_tree.specs.Image.{Image}
+use Rattle.image_check.specs.Any.{any_view}
 use Rattle.image_compare.specs.Diff.{is_printed, names_lines}
 use Rattle.rom_commands.specs.declared.ending.Ending.{Ending}
 use Rattle.rom_commands.specs.declared.ending.Ending.TheVariants.{Done, Warned}
@@ -10,8 +11,8 @@ use Rattle.rom_commands.proofs.differences.write_all.Goals as goal
 
 pub returns-in-Ok : goal.returns-in-Ok
 returns-in-Ok g c =
-    let a : Image = g.T.Viewed.image c.args.old.now in
-    let b : Image = g.T.Viewed.image c.args.new.now in
+    let a : Image = any_view c.args.old.now in
+    let b : Image = any_view c.args.new.now in
     let d = c.in-Ok.ensures in
     let P : Ending → Type 0 = λ o. (o ≡ Done) ⊎ (o ≡ Warned) in
     whole_written (IsDiff c.args.places a b) (StopsDiff a b) (g.W.ByteWrite.output c.args.w.now)
@@ -44,8 +45,8 @@ returns-in-Err-LongPath g c =
 
 pub returns-in-Err-WriteFault : goal.returns-in-Err-WriteFault
 returns-in-Err-WriteFault g c =
-    let a : Image = g.T.Viewed.image c.args.old.now in
-    let b : Image = g.T.Viewed.image c.args.new.now in
+    let a : Image = any_view c.args.old.now in
+    let b : Image = any_view c.args.new.now in
     let d = rw c.in-Err-WriteFault.field-0-is at c.in-Err-WriteFault.ensures in
     let text : List ℕ = names_lines c.args.places a.bytes b.bytes d.old_names d.new_names in (
       text,
