@@ -6,13 +6,14 @@ use crate::overlay::{OverlayError, file_at, is_directory, laid_over, sort};
 use crate::reporter::Reporter;
 use crate::rights::Change;
 use build_commands::inventory::{FileKind, NamedFile};
-use manifest::error::{BAD_NUMBER, BAD_TARGET, BAD_WORD};
+use manifest::error::{BAD_NUMBER, BAD_PATH, BAD_TARGET, BAD_WORD};
 use manifest::{Line, Word, own_fault};
 use rom_commands::{Ending, Status};
 use sentences::reasons::{
-    TABLE_COUNT, TABLE_FILE, TABLE_FILES, TABLE_LINE, TABLE_NUMBER, TABLE_TYPE,
+    TABLE_COUNT, TABLE_FILE, TABLE_FILES, TABLE_LINE, TABLE_NUMBER, TABLE_PATH, TABLE_TYPE,
 };
 use std::alloc::Global;
+use std::collections::BTreeSet;
 use std::str;
 
 /// The most devices of one line.
@@ -20,6 +21,9 @@ const MOST_DEVICES: u64 = 65_536;
 
 /// The most files that all lines make, and the most whose attributes they set.
 const MOST_FILES: usize = 1 << 20;
+
+/// The most names on a path of an image.
+const MOST_NAMES: usize = 64;
 
 /// The most that each of the other numbers may be: Linux has 20 bits for a minor number.
 const MOST_NUMBER: u64 = (1 << 20) - 1;
@@ -104,6 +108,9 @@ impl<'a> Row<'a> {
         if row.count > MOST_DEVICES {
             return Err(LineError::Other(BAD_NUMBER, TABLE_COUNT));
         }
+        if row.path.split('/').count() > MOST_NAMES + 1 {
+            return Err(LineError::Other(BAD_PATH, TABLE_PATH));
+        }
         Ok(row)
     }
 
@@ -152,16 +159,57 @@ impl<'a> Row<'a> {
     }
 }
 
+/// What rows say, with the paths of the directories that they make, and which files are others.
+#[derive(Drop)]
+struct Rows {
+    listed: Listing,
+    directories: BTreeSet<Vec<u8>>,
+    others: Vec<usize>,
+}
+
+impl Rows {
+    /// Returns what no row says.
+    fn new(alloc: Global) -> Rows {
+        Rows {
+            listed: Listing::new(alloc),
+            directories: BTreeSet::new(alloc),
+            others: Vec::new(alloc),
+        }
+    }
+
+    /// Whether a row makes the file of a path.
+    fn have(&self, path: &[u8]) -> bool {
+        let files = &self.listed.files;
+        self.directories.contains(path)
+            || self.others.iter().any(|at| files.get(*at).is_some_and(|file| file.path() == path))
+    }
+
+    /// Adds a directory.
+    fn add_directory(&mut self, alloc: Global, file: NamedFile) -> Result<(), LineError> {
+        self.directories.insert(file.path().to_vec(alloc)?)?;
+        self.listed.files.push(file)?;
+        Ok(())
+    }
+
+    /// Adds another file.
+    fn add_other(&mut self, file: NamedFile) -> Result<(), LineError> {
+        self.others.push(self.listed.files.len())?;
+        self.listed.files.push(file)?;
+        Ok(())
+    }
+}
+
 /// Adds the directory of a row, and those above it that are missing, or sets the attributes of the
 /// one that is there.
 fn add_directory(
     alloc: Global,
     row: &Row<'_>,
     found: &[NamedFile],
-    listed: &mut Listing,
+    rows: &mut Rows,
 ) -> Result<(), LineError> {
     if file_at(found, row.path.as_bytes()).is_some_and(is_directory) {
-        listed.changes.push(row.change(alloc, row.path)?)?;
+        let change = row.change(alloc, row.path)?;
+        rows.listed.changes.push(change)?;
         return Ok(());
     }
     let parent = Row {
@@ -175,16 +223,12 @@ fn add_directory(
             && at > 0
             && let Some(path) = row.path.get(..at)
             && !file_at(found, path.as_bytes()).is_some_and(is_directory)
-            && !listed
-                .files
-                .iter()
-                .any(|file| file.path() == path.as_bytes())
+            && !rows.have(path.as_bytes())
         {
-            listed.files.push(parent.file(alloc, Word::Dir, 0, path)?)?;
+            rows.add_directory(alloc, parent.file(alloc, Word::Dir, 0, path)?)?;
         }
     }
-    listed.files.push(row.file(alloc, Word::Dir, 0, row.path)?)?;
-    Ok(())
+    rows.add_directory(alloc, row.file(alloc, Word::Dir, 0, row.path)?)
 }
 
 /// Sets the attributes of a regular file.
@@ -250,29 +294,21 @@ fn add_below(
 
 /// Adds the devices of a row: one, or `count` of them, if these are several, with numbers at the
 /// ends of their names.
-fn add_devices(
-    alloc: Global,
-    row: &Row<'_>,
-    word: Word,
-    listed: &mut Listing,
-) -> Result<(), LineError> {
+fn add_devices(alloc: Global, row: &Row<'_>, word: Word, rows: &mut Rows) -> Result<(), LineError> {
     if row.mode.is_none() {
         return Err(LineError::Other(BAD_NUMBER, TABLE_NUMBER));
     }
     if row.count < 2 {
-        listed
-            .files
-            .push(row.file(alloc, word, row.minor, row.path)?)?;
-        return Ok(());
+        return rows.add_other(row.file(alloc, word, row.minor, row.path)?);
     }
-    if row.count > MOST_FILES.saturating_sub(listed.files.len()) as u64 {
+    if row.count > MOST_FILES.saturating_sub(rows.listed.files.len()) as u64 {
         return Err(LineError::Other(BAD_NUMBER, TABLE_FILES));
     }
     for step in 0..row.count {
         let name = row.start.saturating_add(step);
         let minor = row.minor.saturating_add(step.saturating_mul(row.increment));
         let path = format!(in alloc; "{}{name}", row.path)?;
-        listed.files.push(row.file(alloc, word, minor, &path)?)?;
+        rows.add_other(row.file(alloc, word, minor, &path)?)?;
     }
     Ok(())
 }
@@ -282,15 +318,15 @@ fn add_row(
     alloc: Global,
     row: &Row<'_>,
     found: &[NamedFile],
-    listed: &mut Listing,
+    rows: &mut Rows,
 ) -> Result<(), LineError> {
     match row.kind {
-        "f" | "F" => add_change(alloc, row, found, listed)?,
-        "d" => add_directory(alloc, row, found, listed)?,
-        "r" => add_below(alloc, row, found, listed)?,
-        "c" => add_devices(alloc, row, Word::Character, listed)?,
-        "b" => add_devices(alloc, row, Word::Block, listed)?,
-        "p" => add_devices(alloc, row, Word::Fifo, listed)?,
+        "f" | "F" => add_change(alloc, row, found, &mut rows.listed)?,
+        "d" => add_directory(alloc, row, found, rows)?,
+        "r" => add_below(alloc, row, found, &mut rows.listed)?,
+        "c" => add_devices(alloc, row, Word::Character, rows)?,
+        "b" => add_devices(alloc, row, Word::Block, rows)?,
+        "p" => add_devices(alloc, row, Word::Fifo, rows)?,
         _ => return Err(LineError::Other(BAD_WORD, TABLE_TYPE)),
     }
     Ok(())
@@ -306,7 +342,7 @@ fn in_its_words(e: LineError) -> LineError {
 
 /// What the lines of a table say; or the line that is refused, and why. Comments begin with `#`.
 fn rows_of(alloc: Global, text: &[u8], found: &[NamedFile]) -> Result<Listing, (u64, LineError)> {
-    let mut listed = Listing::new(alloc);
+    let mut rows = Rows::new(alloc);
     let mut number = 0u64;
     for line in text.split(|b| *b == b'\n') {
         number = number.saturating_add(1);
@@ -318,14 +354,14 @@ fn rows_of(alloc: Global, text: &[u8], found: &[NamedFile]) -> Result<Listing, (
             continue;
         }
         let added = match Row::of(number, line) {
-            Ok(row) => add_row(alloc, &row, found, &mut listed),
+            Ok(row) => add_row(alloc, &row, found, &mut rows),
             Err(e) => Err(e),
         };
         if let Err(e) = added {
             return Err((number, in_its_words(e)));
         }
     }
-    Ok(listed)
+    Ok(rows.listed)
 }
 
 /// Sorts files by their paths, and keeps the last one of each path.

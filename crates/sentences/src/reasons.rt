@@ -223,6 +223,9 @@ pub const TABLE_NUMBER: &str =
 /// A line of a table of devices makes too many devices.
 pub const TABLE_COUNT: &str = "COUNT is at most 65536";
 
+/// The path of a line of a table of devices is too deep.
+pub const TABLE_PATH: &str = "a path in an image has at most 64 names";
+
 /// The lines of a table of devices make too many files.
 pub const TABLE_FILES: &str = "all lines together make or set at most 1048576 files";
 
