@@ -433,13 +433,17 @@ def test_changed(romtool, tree, name):
         assert (*run.communicate(timeout=SECONDS), run.returncode) == refuses("changed")
 
 
+NO_MODES = "romfs stores only whether a file is executable; cramfs stores modes"
+GIVEN = "cramfs stores at most 65535; give no more in --owner and in the file of devices"
+
+
 def test_changes_in_words(romtool, tree):
     """Says what `--for` changes, of three paths at most, and applies it to lines `mode`, too."""
     assert romtool.line("scan --all --strict --all-root --for cramfs strict")[1:] == (b"", 0)
     for words, told in (
-        ("--owner 0:0 --for romfs", "--for romfs changed 0 owners, 0 groups and 3 modes: /b, /d, /e\n"
+        ("--owner 0:0 --for romfs", f"the modes of 3 files changed: /b, /d, /e; {NO_MODES}\n"
          "romtool: strict: 2 names newly readable by all in romfs: /b, /e\n"),
-        ("--owner 70000:0 --for cramfs", "--for cramfs changed 6 owners, 0 groups and 0 modes: /, /a, /b and 3 more\n"),
+        ("--owner 70000:0 --for cramfs", f"owner 70000 of 6 files became 65535: /, /a, /b and 3 more; {GIVEN}\n"),
     ):  # fmt: skip
         assert romtool.line(f"--explain scan --all {words} strict")[1].decode() == f"romtool: strict: {told}"
     fitted = romtool.line("scan --all --all-root --devices mode-lines --for romfs modes")[0]

@@ -6,6 +6,7 @@
 #![tactic(auto)]
 
 mod attribute;
+pub mod changed;
 mod endings;
 mod faults;
 mod fields;
