@@ -6,7 +6,7 @@ ghost use Rattle.rom_commands.specs.Endings.{status_of};
 use crate::arguments::NoWords;
 use crate::origin::Origin;
 use crate::reading::Unread;
-use command_line::{WordsError, is_explain};
+use command_line::{WordsError, is_explain, shown};
 use program_streams::Held;
 use rom_commands::{Ending, Status, report};
 use rom_faults::Fault;
@@ -358,7 +358,7 @@ impl<'a> Reporter<'a> {
         }
         let status = self.say(Ending::Usage);
         if self.is_explained
-            && let Ok(text) = format!(in self.rt.alloc(); "{error}")
+            && let Ok(text) = shown(self.rt.alloc(), &error, self.rt.stderr().is_terminal())
         {
             self.put(text.as_bytes());
         }
