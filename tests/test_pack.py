@@ -95,7 +95,8 @@ def test_table(romtool, app):
     """Says in a table what is in the image."""
     answer = romtool.line("pack --all-root --align 4096 --max-size 64K cramfs app out")
     length = len(bytes_in("out"))
-    table = [(length, "the image"), (5006, "contents of files"), (length - 5006, "names, tables and padding"), (65536 - length, "free")]
+    table = [(length, "the image"), (5006, "contents of files"), (length - 5006, "names, tables and padding")]
+    table += [(65536 - length, "left of 65536")]
     lines = ["romtool: out: cramfs, 2 files, 2 directories, 1 symbolic link", *(f"{n:>14}  {what}" for n, what in table)]
     lines += ["the largest files:", f"{5000:>14}  /large", f"{6:>14}  /etc/motd", ""]
     assert answer == (b"ok %d\n" % length, "\n".join(lines).encode(), 0)

@@ -433,14 +433,44 @@ def test_changed(romtool, tree, name):
         assert (*run.communicate(timeout=SECONDS), run.returncode) == refuses("changed")
 
 
+NO_MODES = "romfs stores only whether a file is executable; cramfs stores modes"
+GIVEN = "cramfs stores at most 65535; give no more in --owner and in the file of devices"
+
+
 def test_changes_in_words(romtool, tree):
     """Says what `--for` changes, of three paths at most, and applies it to lines `mode`, too."""
     assert romtool.line("scan --all --strict --all-root --for cramfs strict")[1:] == (b"", 0)
     for words, told in (
-        ("--owner 0:0 --for romfs", "--for romfs changed 0 owners, 0 groups and 3 modes: /b, /d, /e\n"
+        ("--owner 0:0 --for romfs", f"the modes of 3 files changed: /b, /d, /e; {NO_MODES}\n"
          "romtool: strict: 2 names newly readable by all in romfs: /b, /e\n"),
-        ("--owner 70000:0 --for cramfs", "--for cramfs changed 6 owners, 0 groups and 0 modes: /, /a, /b and 3 more\n"),
+        ("--owner 70000:0 --for cramfs", f"owner 70000 of 6 files became 65535: /, /a, /b and 3 more; {GIVEN}\n"),
     ):  # fmt: skip
         assert romtool.line(f"--explain scan --all {words} strict")[1].decode() == f"romtool: strict: {told}"
     fitted = romtool.line("scan --all --all-root --devices mode-lines --for romfs modes")[0]
     assert fitted.splitlines()[1] == b"file /b 0755 0 0 4 modes/b"
+
+
+@pytest.mark.skipif(not IS_ROOT, reason="only root gives files away")
+def test_changes_of_owners_in_words(romtool, here):
+    """Says which owner or group became which, or the new one if the old ones differ, and what helps."""
+    write_below("owned", {"a": "1", "b": "2", "c": "3", "d": "4", "e": "5"})
+    for name, owner, group in ("a", 9, 1000), ("b", 0, 1000), ("c", 0, 255):
+        os.chown(f"owned/{name}", owner, group)
+    os.chmod("owned/d", 0o640)
+    of_cramfs = "group 1000 of 2 files became 255: /a, /b; cramfs stores at most 255; --all-root or --owner sets another"
+    all_root = "--all-root sets 0 for all files"
+    of_romfs = [
+        f"owner 9 of 1 file became 0: /a; romfs stores no owners; {all_root}",
+        f"the groups of 3 files became 0: /a, /b, /c; romfs stores no groups; {all_root}",
+        f"mode 0640 of 1 file became 0644: /d; {NO_MODES}",
+        "1 name newly readable by all in romfs: /d",
+    ]
+    given = "group 300 of 6 files became 255: /, /a, /b and 3 more; cramfs stores at most 255; "
+    given += "give no more in --owner and in the file of devices"
+    for more, format, told in ("", "cramfs", [of_cramfs]), ("", "romfs", of_romfs), ("--owner 0:300 ", "cramfs", [given]):
+        wanted = "".join(f"romtool: owned: {line}\n" for line in told).encode()
+        assert romtool.line(f"--explain scan --all {more}--for {format} owned")[1:] == (wanted, 0)
+        assert romtool.line(f"pack {more}{format} owned out")[1].startswith(wanted + b"romtool: out: ")
+    refused = f"unfit 0 2 0\nromtool: owned: {of_cramfs.replace('became', 'would become')}\n"
+    assert romtool.line("pack --strict cramfs owned out") == (b"", refused.encode(), 1)
+    assert romtool.line("--explain scan --all --for cramfs --all-root owned")[1] == b""

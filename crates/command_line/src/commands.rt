@@ -67,7 +67,9 @@ fn with_arguments<'a>(
 fn subcommand<'a>(alloc: Global, row: &Subcommand<'a>) -> Result<Command<'a>, AllocError>
     ensures { IfOk result (IsShaped (shape_named row.now)) }
 {
-    let command = Command::new(alloc, row.name).about(row.about);
+    let command = Command::new(alloc, row.name)
+        .about(row.about)
+        .after_help(row.example);
     let command = with_arguments(alloc, command, row.words)?;
     command.arg(argument(alloc, EXPLAIN))
 }

@@ -1,4 +1,4 @@
-//! The program's subcommands: the sentence, the arguments and the options of each.
+//! The program's subcommands: the sentence, an example, the arguments and the options of each.
 
 /// How words give a value to an argument.
 #[derive(Clone, Copy)]
@@ -36,6 +36,8 @@ pub struct Word<'a> {
 pub struct Subcommand<'a> {
     pub name: &'a str,
     pub about: &'a str,
+    /// The text after the options in help.
+    pub example: &'a str,
     pub words: &'a [Word<'a>],
 }
 
@@ -72,7 +74,7 @@ const MOST: Word<'static> = Word {
     kind: Kind::Option,
     name: "max-size",
     shown: "N",
-    help: "Reads no image that states more than N bytes, such as 64K, 2M, 1G or 0x10000",
+    help: "Refuses an image of more than N bytes, such as 64K, 2M, 1G or 0x10000",
 };
 
 const SIZE: Word<'static> = Word {
@@ -529,21 +531,25 @@ pub const READING: [Subcommand<'static>; 12] = [
     Subcommand {
         name: "check",
         about: "Reports whether a file holds a valid image, or which fault it has",
+        example: "Example: romtool check app.cramfs",
         words: &[EACH, MOST, CHECKED],
     },
     Subcommand {
         name: "list",
         about: "Prints a line for each name in an image",
+        example: "Example: romtool list app.cramfs",
         words: &[IMAGE, MOST],
     },
     Subcommand {
         name: "info",
         about: "Prints a summary of an image: its format, volume, sizes, and how many names of each kind",
+        example: "Example: romtool info --size 2M app.cramfs",
         words: &[IMAGE, SIZE, MOST],
     },
     Subcommand {
         name: "map",
         about: "Prints the address in the flash of each file of an image",
+        example: "Example: romtool map --base 0x08000000 app.cramfs",
         words: &[
             IMAGE,
             BASE,
@@ -559,41 +565,49 @@ pub const READING: [Subcommand<'static>; 12] = [
     Subcommand {
         name: "which",
         about: "Prints what is at the given addresses of the flash",
+        example: "Example: romtool which --base 0x08000000 app.cramfs 0x08000010",
         words: &[IMAGE, BASE, MOST, ADDRESSES],
     },
     Subcommand {
         name: "diff",
         about: "Prints the differences of two images",
+        example: "Example: romtool diff old.cramfs app.cramfs",
         words: &[OLD, NEW, TREE, MOST],
     },
     Subcommand {
         name: "digest",
         about: "Prints the SHA-256 of each file of an image",
+        example: "Example: romtool digest app.cramfs",
         words: &[DIGESTED, WHOLE, MOST],
     },
     Subcommand {
         name: "verify",
         about: "Compares a dump of the flash with an image",
+        example: "Example: romtool verify app.cramfs flash.bin",
         words: &[IMAGE, DUMP, OFFSET, MOST],
     },
     Subcommand {
         name: "numbers",
         about: "Prints a description of an image, with which firmware opens it without a check",
+        example: "Example: romtool numbers --c app.cramfs",
         words: &[IMAGE, ARRAY, MOST],
     },
     Subcommand {
         name: "cat",
         about: "Prints the bytes of a file in an image",
+        example: "Example: romtool cat app.cramfs /etc/motd",
         words: &[IMAGE, PATH, MOST],
     },
     Subcommand {
         name: "linux",
         about: "Prints what Linux misreads in a valid image",
+        example: "Example: romtool linux app.cramfs",
         words: &[IMAGE, MOST],
     },
     Subcommand {
         name: "xip",
         about: "Prints which programs of an image Linux executes in place",
+        example: "Example: romtool xip app.cramfs",
         words: &[IMAGE, BASE, NO_MMU, ADVICE, MOST],
     },
 ];
@@ -603,16 +617,19 @@ pub const BUILDING: [Subcommand<'static>; 4] = [
     Subcommand {
         name: "serve",
         about: "Answers requests on standard input about the files of an image",
+        example: "Example: echo stat / | romtool serve app.cramfs",
         words: &[IMAGE, MOST],
     },
     Subcommand {
         name: "space",
         about: "Answers requests about one to eight images, with sessions and mounts",
+        example: "Example: echo 0 stat / | romtool space app.cramfs data.romfs",
         words: &[MOST, IMAGES],
     },
     Subcommand {
         name: "build",
         about: "Builds the image of a manifest and of the files that it names",
+        example: "Example: romtool build cramfs manifest app.cramfs",
         words: &[
             FORMAT,
             MANIFEST,
@@ -630,6 +647,7 @@ pub const BUILDING: [Subcommand<'static>; 4] = [
     Subcommand {
         name: "pack",
         about: "Builds the image of directories as they are: scan --all and build in one step",
+        example: "Example: romtool pack --all-root --align 4096 cramfs app app.cramfs",
         words: &[
             FORMAT,
             PACKED,
@@ -659,6 +677,7 @@ pub const OTHERS: [Subcommand<'static>; 3] = [
     Subcommand {
         name: "scan",
         about: "Prints a manifest of a directory",
+        example: "Example: romtool scan --all --for cramfs -o manifest app",
         words: &[
             DIRECTORIES,
             ALL,
@@ -680,11 +699,13 @@ pub const OTHERS: [Subcommand<'static>; 3] = [
     Subcommand {
         name: "extract",
         about: "Writes the files of an image into a directory, and prints its manifest",
+        example: "Example: romtool extract app.cramfs dir",
         words: &[IMAGE, INTO, ALIGN_AGAIN, OWNERS, NO_SYNC, MOST, PATHS],
     },
     Subcommand {
         name: "version",
         about: "Prints the program's version",
+        example: "Example: romtool version",
         words: &[],
     },
 ];

@@ -173,7 +173,12 @@ fn table(
         "names, tables and padding",
     )?;
     if let Some(most) = most_bytes(&asked.wanted) {
-        add_row(&mut text, alloc, most.saturating_sub(len), "free")?;
+        add_row(
+            &mut text,
+            alloc,
+            most.saturating_sub(len),
+            &format!(in alloc; "left of {most}")?,
+        )?;
     }
     if let Some(programs) = &built.programs
         && (programs.count > 0 || asked.wanted.xip)

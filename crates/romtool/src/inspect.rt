@@ -10,6 +10,7 @@ use crate::dump::DumpFile;
 use crate::output::{errors, lines, output, terminal};
 use crate::patterns::{all_pieces, only};
 use crate::printed::in_file;
+use crate::reading::Unread;
 use crate::reporter::Reporter;
 use crate::{dump, extracting, reading, totals};
 use command_line::{Cat, Diff, Digest, Extract, Map, MapForm, Verify, Which};
@@ -22,10 +23,12 @@ use rom_commands::{
     print_places, print_script, refuse, verify_dump,
 };
 use rom_faults::{CheckError, Fault};
-use rom_fields::{ByteWrite, put};
+use rom_fields::{ByteWrite, Plain, put};
 use rom_tree::{Limits, TreeImage};
-use sentences::reasons::{MISREAD, NO_ADDRESS, NO_PREFIX, NOT_IN_PLACE};
-use sentences::words::escaped;
+use sentences::Noted;
+use sentences::image::range_seen;
+use sentences::reasons::{MISREAD, NO_ADDRESS, NO_PREFIX, NOT_IN_PLACE, TERMINAL};
+use sentences::words::{escaped, is_shown};
 use std::io::IsTerminal;
 use system_files::{Found, Front, Loaded};
 
@@ -106,12 +109,36 @@ fn explain_size(reporter: &Reporter<'_>, name: &[u8], bytes: &[u8], limit: u64) 
     }
 }
 
+/// Explains each thing once that the printed lines say of an image, and then why it was refused.
+fn explain_lines(
+    reporter: &Reporter<'_>,
+    name: &[u8],
+    bytes: &[u8],
+    asked: Asked,
+    why: &'static str,
+)
+    requires { Fits asked (length bytes.now) }
+{
+    let alloc = reporter.rt.alloc();
+    let mut lines = Plain::new(Noted::new(alloc));
+    let mut nothing = Plain::new(Vec::new(alloc));
+    print(alloc, bytes, asked, &mut lines, &mut nothing);
+    if let Ok(texts) = lines.into_inner().texts() {
+        for text in &texts {
+            reporter.explain(name, text);
+        }
+    }
+    reporter.explain(name, &why);
+}
+
 /// Explains why a valid image was refused: Linux misreads it, does not execute a program in place,
 /// or it does not fit.
-fn explain_warning(reporter: &Reporter<'_>, name: &[u8], bytes: &[u8], asked: Asked) {
+fn explain_warning(reporter: &Reporter<'_>, name: &[u8], bytes: &[u8], asked: Asked)
+    requires { Fits asked (length bytes.now) }
+{
     match asked {
-        Asked::Misreads => reporter.explain(name, &MISREAD),
-        Asked::Programs(_) => reporter.explain(name, &NOT_IN_PLACE),
+        Asked::Misreads => explain_lines(reporter, name, bytes, asked, MISREAD),
+        Asked::Programs(_) => explain_lines(reporter, name, bytes, asked, NOT_IN_PLACE),
         Asked::Fit { limit, .. } => explain_size(reporter, name, bytes, limit),
         _ => {}
     }
@@ -180,12 +207,24 @@ pub fn check_each(reporter: &Reporter<'_>, names: &[&str]) -> Result<Status, Sta
     Ok(greatest)
 }
 
+/// Whether the file to which a path leads in an image has only characters that a terminal shows.
+fn is_text(reporter: &Reporter<'_>, bytes: &[u8], path: &[u8]) -> bool {
+    let alloc = reporter.rt.alloc();
+    let mut file = Plain::new(Vec::new(alloc));
+    let mut nothing = Plain::new(Vec::new(alloc));
+    print_file(alloc, bytes, path, &mut file, &mut nothing);
+    is_shown(&file.into_inner())
+}
+
 /// Prints the bytes of the file to which a path leads in the image in a file.
 pub fn cat(reporter: &Reporter<'_>, asked: Cat<'_>) -> Result<Status, Status> {
     let (bytes, path) = (
         loaded_data(reporter, asked.image)?.bytes,
         asked.path.as_bytes(),
     );
+    if reporter.rt.stdout().is_terminal() && !is_text(reporter, &bytes, path) {
+        return Err(usage(reporter, "stdout", TERMINAL));
+    }
     let (mut out, mut err) = (output(reporter)?, errors(reporter.rt));
     let ending = print_file(reporter.rt.alloc(), &bytes, path, &mut out, &mut err);
     reporter.finish(err, ending, path);
@@ -249,6 +288,11 @@ pub fn which(reporter: &Reporter<'_>, asked: &Which<'_>) -> Result<Status, Statu
     let (mut out, mut err) = (output(reporter)?, errors(reporter.rt));
     let ending = print_places(alloc, image, base, file, addresses, &mut out, &mut err);
     reporter.finish(err, ending, b"");
+    if ending == Ending::Warned
+        && let Ok(range) = range_seen(alloc, base, file)
+    {
+        reporter.explain(asked.image.as_bytes(), &range);
+    }
     Ok(ending.status())
 }
 
@@ -259,6 +303,9 @@ pub fn numbers(
 ) -> Result<Status, Status> {
     let loaded = loaded_data(reporter, asked.image)?;
     let image = checked(reporter, asked.image, &loaded.bytes)?;
+    if !asked.is_array && reporter.rt.stdout().is_terminal() {
+        return Err(usage(reporter, "stdout", TERMINAL));
+    }
     let (mut out, mut err) = (output(reporter)?, errors(reporter.rt));
     let ending = print_numbers(Numbers::of(&image), asked.is_array, &mut out, &mut err);
     reporter.finish(err, ending, b"");
@@ -313,7 +360,7 @@ pub fn verify(reporter: &Reporter<'_>, asked: Verify<'_>) -> Result<Status, Stat
         &mut err,
     ) {
         Ok(verified) => verified,
-        Err(e) => return Err(reporter.refused(asked.dump.as_bytes(), &e)),
+        Err(e) => return Err(reporter.unread(asked.dump.as_bytes(), &Unread::Refused(e))),
     };
     reporter.finish(err, ending, b"");
     if reporter.is_explained()

@@ -3,7 +3,8 @@
 use command_line::size_named;
 use image_check::{HEAD, reach_of};
 use program_streams::read_until;
-use sentences::reasons::{IMAGE_TOO_LONG, LINE_TOO_LONG, MANIFEST_TOO_LONG, NO_MAX_SIZE};
+use sentences::image::too_long;
+use sentences::reasons::{LINE_TOO_LONG, MANIFEST_TOO_LONG, NO_MAX_SIZE};
 use std::env::{Env, FillError};
 use std::fs::{File, Metadata, OpenFile};
 use std::io::Read;
@@ -68,10 +69,10 @@ fn most_of_image(rt: &HostRuntime) -> io::Result<Option<u64>> {
 /// Refuses an image of which more bytes would be read than the words or, without such words, the
 /// environment allow. Of a pipe this is not known beforehand.
 fn check_size(rt: &HostRuntime, most: Option<u64>, file: &File, was: &Metadata) -> io::Result<()> {
-    let most = match most {
-        Some(most) => most,
+    let (most, by) = match most {
+        Some(most) => (most, "--max-size"),
         None => match most_of_image(rt)? {
-            Some(most) => most,
+            Some(most) => (most, MAX_SIZE),
             None => return Ok(()),
         },
     };
@@ -86,7 +87,8 @@ fn check_size(rt: &HostRuntime, most: Option<u64>, file: &File, was: &Metadata) 
         reach
     };
     if reach > most {
-        return Err(io::Error::new(io::ErrorKind::FileTooLarge, IMAGE_TOO_LONG));
+        let why = too_long(rt.alloc(), reach, most, by)?;
+        return Err(io::Error::new(io::ErrorKind::FileTooLarge, &why));
     }
     Ok(())
 }

@@ -6,12 +6,12 @@ ghost use Rattle.rom_commands.specs.Endings.{status_of};
 use crate::arguments::NoWords;
 use crate::origin::Origin;
 use crate::reading::Unread;
-use command_line::{WordsError, is_explain};
+use command_line::{WordsError, is_explain, shown};
 use program_streams::Held;
 use rom_commands::{Ending, Status, report};
 use rom_faults::Fault;
 use rom_fields::Plain;
-use sentences::reasons::{NO_SLASH, NO_WORD, SOURCE_CHANGED};
+use sentences::reasons::{NO_SLASH, NO_STREAM, NO_WORD, SOURCE_CHANGED};
 use sentences::words::escaped;
 use sentences::{call_sentence, ending_sentence, fault_sentence, image};
 use std::alloc::AllocError;
@@ -241,7 +241,13 @@ impl<'a> Reporter<'a> {
     {
         match why {
             Unread::Changed => self.changed(name, &SOURCE_CHANGED),
-            Unread::Refused(e) => self.refused(name, e),
+            Unread::Refused(e) => {
+                let status = self.refused(name, e);
+                if name == b"-".as_slice() {
+                    self.explain(name, &NO_STREAM);
+                }
+                status
+            }
         }
     }
 
@@ -323,7 +329,9 @@ impl<'a> Reporter<'a> {
         let (short, sentence) = (rom_faults::name(number), fault_sentence(number));
         let seen = image::seen(alloc, bytes, number, at)?;
         let colon = if seen.is_empty() { "" } else { ": " };
-        let what = format!(in alloc; "{short} ({number}) at {at}: {sentence}{colon}{seen}")?;
+        let what = format!(in alloc;
+            "{short} ({number}) at {at}: {sentence}{colon}{seen}; see FAULTS, {number} {short}"
+        )?;
         self.try_explain(name, &what)
     }
 
@@ -350,7 +358,7 @@ impl<'a> Reporter<'a> {
         }
         let status = self.say(Ending::Usage);
         if self.is_explained
-            && let Ok(text) = format!(in self.rt.alloc(); "{error}")
+            && let Ok(text) = shown(self.rt.alloc(), &error, self.rt.stderr().is_terminal())
         {
             self.put(text.as_bytes());
         }

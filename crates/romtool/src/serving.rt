@@ -4,16 +4,32 @@ use crate::output::{errors, lines};
 use crate::reading::{self, Unread};
 use crate::replies::Replies;
 use crate::reporter::Reporter;
+use image_check::check;
 use program_streams::Ahead;
 use rom_commands::{Asked, Ending, Status, refuse_in, serve_on, serve_several_on};
 use rom_fields::{ByteRead, Plain};
-use std::io;
+use rom_tree::Limits;
+use sentences::reasons::{SPACE_WAITS, WAITS};
+use std::io::{self, IsTerminal};
 use system_files::{Found, Front};
+
+/// Whether requests are typed, and words are asked for.
+fn is_typed(reporter: &Reporter<'_>) -> bool {
+    reporter.is_explained() && reporter.rt.stdin().is_terminal()
+}
+
+/// Whether a file is an image without a fault.
+fn is_valid(reporter: &Reporter<'_>, bytes: &[u8]) -> bool {
+    check(reporter.rt.alloc(), bytes, Limits::usual()).is_ok()
+}
 
 /// Serves the image in a file.
 pub fn serve(reporter: &Reporter<'_>, name: &str) -> Result<Status, Status> {
     let rt = reporter.rt;
     let bytes = loaded(reporter, name, Asked::Report)?.bytes;
+    if is_typed(reporter) && is_valid(reporter, &bytes) {
+        reporter.explain(b"stdin", &WAITS);
+    }
     let mut err = errors(rt);
     let ending = serve_on(
         rt.alloc(),
@@ -122,12 +138,13 @@ pub fn space(reporter: &Reporter<'_>, names: &[&str]) -> Status {
     let rt = reporter.rt;
     let mut files = Vec::new(rt.alloc());
     match read_all(reporter, names, &mut files) {
-        Ok(()) => serve_files(
-            reporter,
-            names,
-            &files,
-            &mut Plain::new(Ahead::new(rt.reader())),
-        ),
+        Ok(()) => {
+            if is_typed(reporter) && files.iter().all(|file| is_valid(reporter, file)) {
+                reporter.explain(b"stdin", &SPACE_WAITS);
+            }
+            let lines = &mut Plain::new(Ahead::new(rt.reader()));
+            serve_files(reporter, names, &files, lines)
+        }
         Err((name, missing)) => {
             let number = u32::try_from(files.len()).unwrap_or(u32::MAX);
             let no_lines: &[u8] = &[];

@@ -211,3 +211,30 @@ pub fn seen(alloc: Global, bytes: &[u8], number: u32, at: u32) -> Result<String,
         _ => record(alloc, bytes, at),
     }
 }
+
+/// Returns why an image of which so many bytes would be read is refused, in words: the option or
+/// the variable `by` allows fewer. Each number has at most ten digits if they are below 2^32, and
+/// then the words have at most 80 bytes.
+///
+/// # Errors
+///
+/// `OutOfMemory`.
+pub fn too_long(alloc: Global, len: u64, most: u64, by: &str) -> Result<String, AllocError> {
+    format!(in alloc; "{len} bytes of it would be read, and {by} allows {most}")
+}
+
+/// Returns which addresses the bytes of a file have, in words, if the first one has the address
+/// `base`, and that this may be wrong.
+///
+/// # Errors
+///
+/// `OutOfMemory`.
+pub fn range_seen(alloc: Global, base: u64, len: u64) -> Result<String, AllocError> {
+    let last = base.saturating_add(len.saturating_sub(1));
+    let why = if base == 0 {
+        "perhaps --base HEX is missing, the address of the image in the flash"
+    } else {
+        "is the HEX of --base the address of the image in the flash?"
+    };
+    format!(in alloc; "its {len} bytes are at 0x{base:08x} to 0x{last:08x}; {why}")
+}

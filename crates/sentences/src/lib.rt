@@ -1,19 +1,23 @@
-//! The texts that the program prints for people: a sentence for each fault, misfit, refused call
-//! and ending, and the values that were read there.
+//! The texts that the program prints for people: a sentence for each fault, misfit, refused call,
+//! ending, and reason of a line of `xip` and of `linux`, and the values that were read there.
 //!
 //! Proved: which sentence each number and each name has (`specs/`). The values, which `seen` adds,
 //! are text for people and are tested.
 #![tactic(auto)]
 
 mod attribute;
+pub mod changed;
 mod endings;
 mod faults;
 mod fields;
 pub mod image;
 pub mod manifest_line;
 mod manifests;
+mod misreads;
+mod noted;
 mod path_rule;
 pub mod plan_line;
+mod programs;
 pub mod reasons;
 mod replies;
 mod unfit;
@@ -22,5 +26,8 @@ pub mod words;
 pub use endings::ending_sentence;
 pub use faults::fault_sentence;
 pub use manifests::manifest_sentence;
+pub use misreads::misread_sentence;
+pub use noted::Noted;
+pub use programs::program_sentence;
 pub use replies::{call_sentence, line_sentence};
 pub use unfit::misfit_sentence;

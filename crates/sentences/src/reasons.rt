@@ -88,11 +88,11 @@ pub const NO_PREFIX: &str =
 
 /// Linux misreads something in a valid image.
 pub const MISREAD: &str =
-    "it is valid, but Linux misreads what these lines name; see docs/LINUX.md";
+    "it is valid, but Linux misreads what these lines name; see LINUX, By number";
 
 /// A program in a valid image is not, or not wholly, executed in place.
 pub const NOT_IN_PLACE: &str =
-    "Linux does not execute all of these programs in place; see docs/LINUX.md";
+    "Linux does not execute all of these programs in place; see PROTOCOL, Programs in place";
 
 /// A directory that is to be filled is not empty.
 pub const NOT_EMPTY: &str = "it is not empty";
@@ -169,9 +169,18 @@ pub const WHITEOUT: &str =
 /// The file that is to be replaced belongs to another user, in a directory such as `/tmp`.
 pub const OUT_OF_ANOTHER: &str = "another user made it, in a directory like /tmp; remove it first";
 
-/// An image is larger than the environment allows.
-pub const IMAGE_TOO_LONG: &str =
-    "to read it takes more bytes than --max-size or ROMTOOL_MAX_SIZE says";
+/// A file named `-` cannot be opened.
+pub const NO_STREAM: &str = "- is the name of a file here; standard input is /dev/stdin";
+
+/// Bytes that are no text are to be printed on a terminal.
+pub const TERMINAL: &str = "it is a terminal, and these bytes are not text: redirect it";
+
+/// Requests are read from a terminal.
+pub const WAITS: &str = "waits for requests, such as stat /; Ctrl-D ends them; see LINES";
+
+/// Requests to several images are read from a terminal.
+pub const SPACE_WAITS: &str =
+    "waits for requests with a session, such as 0 stat /; Ctrl-D ends them; see LINES";
 
 /// The environment does not say how large images may be.
 pub const NO_MAX_SIZE: &str =
