@@ -25,10 +25,10 @@ use rom_commands::{
 use rom_faults::{CheckError, Fault};
 use rom_fields::{ByteWrite, Plain, put};
 use rom_tree::{Limits, TreeImage};
-use sentences::Noted;
 use sentences::image::range_seen;
 use sentences::reasons::{MISREAD, NO_ADDRESS, NO_PREFIX, NOT_IN_PLACE, TERMINAL};
-use sentences::words::{escaped, is_shown};
+use sentences::words::escaped;
+use sentences::{Noted, TextSeen};
 use std::io::IsTerminal;
 use system_files::{Found, Front, Loaded};
 
@@ -210,10 +210,10 @@ pub fn check_each(reporter: &Reporter<'_>, names: &[&str]) -> Result<Status, Sta
 /// Whether the file to which a path leads in an image has only characters that a terminal shows.
 fn is_text(reporter: &Reporter<'_>, bytes: &[u8], path: &[u8]) -> bool {
     let alloc = reporter.rt.alloc();
-    let mut file = Plain::new(Vec::new(alloc));
+    let mut file = Plain::new(TextSeen::new());
     let mut nothing = Plain::new(Vec::new(alloc));
     print_file(alloc, bytes, path, &mut file, &mut nothing);
-    is_shown(&file.into_inner())
+    file.into_inner().is_text()
 }
 
 /// Prints the bytes of the file to which a path leads in the image in a file.

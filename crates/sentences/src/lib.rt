@@ -20,6 +20,7 @@ pub mod plan_line;
 mod programs;
 pub mod reasons;
 mod replies;
+mod text_seen;
 mod unfit;
 pub mod words;
 
@@ -30,4 +31,5 @@ pub use misreads::misread_sentence;
 pub use noted::Noted;
 pub use programs::program_sentence;
 pub use replies::{call_sentence, line_sentence};
+pub use text_seen::TextSeen;
 pub use unfit::misfit_sentence;

@@ -1,7 +1,6 @@
 //! Names as texts for people.
 use percent_encoding::{AsciiSet, CONTROLS, ascii_set, percent_encode};
 use std::alloc::{AllocError, Global};
-use std::str;
 
 /// The bytes that are escaped in a name, as in the lines that the program prints.
 const ESCAPED: AsciiSet = ascii_set!(CONTROLS.add(b' ').add(b'%'));
@@ -42,18 +41,4 @@ pub fn shown(alloc: Global, name: &[u8]) -> Result<String, AllocError> {
 /// `OutOfMemory`.
 pub fn field_shown(alloc: Global, field: &[u8]) -> Result<String, AllocError> {
     format!(in alloc; "{}", percent_encode(front(field), CONTROLS))
-}
-
-/// Returns whether bytes are a text in UTF-8 without characters that a terminal takes for commands:
-/// controls except tabs and line ends.
-pub fn is_shown(b: &[u8]) -> bool {
-    let Ok(text) = str::from_utf8(b) else {
-        return false;
-    };
-    for c in text.chars() {
-        if c.is_control() && !matches!(c, '\t' | '\n' | '\r') {
-            return false;
-        }
-    }
-    true
 }
