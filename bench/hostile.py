@@ -153,8 +153,8 @@ def table_of_directories(top):
 
 
 def deep_directories(top):
-    """60 lines of a device table, each of 1,900 directories in each other."""
-    return lines_of(top, "table", ("/%02d%s d 755 0 0 - - - - -" % (n, "/a" * 1899) for n in range(60)))
+    """6,000 lines of a device table, each of 64 directories in each other."""
+    return lines_of(top, "table", ("/%04d%s d 755 0 0 - - - - -" % (n, "/a" * 63) for n in range(6000)))
 
 
 def listed_directories(top):
