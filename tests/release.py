@@ -169,7 +169,7 @@ def bash(binary, top, counts):
     names = [it.name for it in subcommands]
     counts.equal("bash: all subcommands", completed(script, ""), [*names, "help"])
     counts.equal("bash: its own options", completed(script, "-"), [*(it.name for it in options), "--help", "--version"])
-    counts.equal("bash: subcommands behind --explain", completed(script, "--explain", "s"), ["serve", "space", "scan"])
+    counts.equal("bash: subcommands behind --explain", completed(script, "--explain", "s"), ["scan", "serve", "space"])
     counts.equal("bash: help of one", completed(script, "help", "ex"), ["extract"])
     for it in subcommands:
         counts.equal("bash: options of " + it.name, completed(script, it.name, "--"), [*(o.name for o in it.options), "--help"])
