@@ -23,10 +23,22 @@ union header {
     uint8_t room[UNIT];
 };
 
-static uint8_t *first, *end; /* the area, at multiples of UNIT */
-static size_t most, blocks;
-/* For each size: no free block of this size or more begins before this. These addresses do not fall. */
-static uint8_t *lowest[KINDS];
+/* In a program for Linux, each thread has an area of its own. For the tasks of another system, define this as what makes
+ * a variable of each task. */
+#ifndef ROMTOOL_AREA_LOCAL
+#if defined __linux__ && __STDC_HOSTED__
+#define ROMTOOL_AREA_LOCAL __thread
+#else
+#define ROMTOOL_AREA_LOCAL
+#endif
+#endif
+
+static ROMTOOL_AREA_LOCAL struct {
+    uint8_t *first, *end; /* the area, at multiples of UNIT */
+    size_t most, blocks;
+    /* For each size: no free block of this size or more begins before this. These addresses do not fall. */
+    uint8_t *lowest[KINDS];
+} area;
 
 static union header *header_at(uint8_t *at) {
     return (union header *)(void *)at;
@@ -50,7 +62,7 @@ static size_t kind_of(size_t size) {
 
 static void set(union header *it, size_t size, size_t used) {
     it->of.size = size | used;
-    if (end_of(it) < end) {
+    if (end_of(it) < area.end) {
         header_at(end_of(it))->of.before = size;
     }
 }
@@ -60,15 +72,15 @@ static void settle(union header *it) {
     uint8_t *at = (uint8_t *)it;
     for (size_t kind = 0; kind < KINDS; kind++) {
         const int is_hidden = !is_used(it) && kind <= kind_of(size_of(it));
-        if (lowest[kind] > at && (is_hidden || lowest[kind] < end_of(it))) {
-            lowest[kind] = at;
+        if (area.lowest[kind] > at && (is_hidden || area.lowest[kind] < end_of(it))) {
+            area.lowest[kind] = at;
         }
     }
 }
 
 /* Joins a used block with the free block after it. */
 static void join(union header *it) {
-    if (end_of(it) < end && !is_used(header_at(end_of(it)))) {
+    if (end_of(it) < area.end && !is_used(header_at(end_of(it)))) {
         set(it, size_of(it) + UNIT + size_of(header_at(end_of(it))), 1);
         settle(it);
     }
@@ -77,7 +89,7 @@ static void join(union header *it) {
 /* Frees a block, and joins it with its free neighbours. */
 static void release(union header *it) {
     join(it);
-    if ((uint8_t *)it > first) {
+    if ((uint8_t *)it > area.first) {
         union header *before = header_at((uint8_t *)it - it->of.before - UNIT);
         if (!is_used(before)) {
             set(before, size_of(before) + UNIT + size_of(it), 0);
@@ -110,8 +122,8 @@ static struct romtool_memory refused(void) {
 
 static struct romtool_memory given(union header *it) {
     struct romtool_memory memory;
-    const size_t reached = (size_t)(end_of(it) - first);
-    most = reached > most ? reached : most;
+    const size_t reached = (size_t)(end_of(it) - area.first);
+    area.most = reached > area.most ? reached : area.most;
     memory.given = 1;
     memory.at = (uint8_t *)it + UNIT;
     return memory;
@@ -119,7 +131,7 @@ static struct romtool_memory given(union header *it) {
 
 /* Returns the size in whole units, or more than the area has. */
 static size_t whole(romtool_size size) {
-    const size_t all = (size_t)(end - first);
+    const size_t all = (size_t)(area.end - area.first);
     return size > all ? all + UNIT : ((size_t)size + UNIT - 1) / UNIT * UNIT;
 }
 
@@ -127,11 +139,11 @@ static size_t whole(romtool_size size) {
 static union header *found(size_t size) {
     const size_t kind = kind_of(size);
     int is_first = 1; /* no free block of this kind was passed */
-    for (uint8_t *at = lowest[kind]; at < end; at = end_of(header_at(at))) {
+    for (uint8_t *at = area.lowest[kind]; at < area.end; at = end_of(header_at(at))) {
         union header *it = header_at(at);
         if (!is_used(it) && size_of(it) >= size) {
-            for (size_t more = kind; is_first && more < KINDS && lowest[more] < at; more++) {
-                lowest[more] = at;
+            for (size_t more = kind; is_first && more < KINDS && area.lowest[more] < at; more++) {
+                area.lowest[more] = at;
             }
             return it;
         }
@@ -142,24 +154,30 @@ static union header *found(size_t size) {
 
 void romtool_area(void *bytes, romtool_size len) {
     const size_t skipped = (size_t)(-(uintptr_t)bytes % UNIT);
-    first = end = NULL;
-    most = blocks = 0;
+    area.first = area.end = NULL;
+    area.most = area.blocks = 0;
     if (bytes && len >= skipped + UNIT && len <= PTRDIFF_MAX) {
-        first = (uint8_t *)bytes + skipped;
-        end = first + ((size_t)len - skipped) / UNIT * UNIT;
-        set(header_at(first), (size_t)(end - first) - UNIT, 0);
+        area.first = (uint8_t *)bytes + skipped;
+        area.end = area.first + ((size_t)len - skipped) / UNIT * UNIT;
+        set(header_at(area.first), (size_t)(area.end - area.first) - UNIT, 0);
     }
     for (size_t kind = 0; kind < KINDS; kind++) {
-        lowest[kind] = first;
+        area.lowest[kind] = area.first;
     }
+}
+
+uint32_t romtool_check_in(struct romtool_image *image, const uint8_t *data, romtool_size len, void *room,
+                          romtool_size room_len) {
+    romtool_area(room, room_len);
+    return romtool_check(image, data, len);
 }
 
 romtool_size romtool_area_most(void) {
-    return most;
+    return area.most;
 }
 
 romtool_size romtool_area_blocks(void) {
-    return blocks;
+    return area.blocks;
 }
 
 struct romtool_memory rattle_alloc(romtool_size size, romtool_size align) {
@@ -170,7 +188,7 @@ struct romtool_memory rattle_alloc(romtool_size size, romtool_size align) {
     }
     set(it, size_of(it), 1);
     cut(it, asked);
-    blocks++;
+    area.blocks++;
     return given(it);
 }
 
@@ -195,5 +213,5 @@ struct romtool_memory rattle_realloc(void *at, romtool_size kept, romtool_size s
 
 void rattle_dealloc(void *at) {
     release(header_at((uint8_t *)at - UNIT));
-    blocks--;
+    area.blocks--;
 }

@@ -49,9 +49,14 @@ void rattle_dealloc(void *at);
 
 /* Only in c/area.c, which is libromtool_area.a of a release for Linux (link it before libromtool.a), and src/area.c of a
  * release for boards: makes a heap of the `len` bytes at `bytes`. Call it before the first check. A later call begins
- * again, also with other bytes, and is allowed while no check runs. One area serves one check at a time: two threads
- * that check at the same time need a lock around both checks. */
+ * again, also with other bytes, and is allowed while this thread runs no check. One area serves one check at a time. On
+ * Linux each thread has its own. Elsewhere all tasks share one, unless ROMTOOL_AREA_LOCAL is defined for src/area.c as
+ * what makes a variable of each task: otherwise two tasks need a lock around their checks. */
 void romtool_area(void *bytes, romtool_size len);
+
+/* Also only there: makes a heap of the room, and checks the image with it: romtool_area, and then romtool_check. */
+uint32_t romtool_check_in(struct romtool_image *image, const uint8_t *data, romtool_size len, void *room,
+                          romtool_size room_len);
 
 /* Returns how many bytes an area needs for all requests since romtool_area was called, if none was refused. For checks
  * of the same images, an area of this size at a multiple of 16 is enough. In a smaller one, a request is refused. */

@@ -21,6 +21,7 @@ warning as an error, and with AddressSanitizer and UBSan if the compiler has the
     refused.c, recording.c
                a heap that records sizes and refuses each call in turn, on the images of the cases
     areas.c    the heap over an array, c/area.c, by itself and under checks
+    rooms.c    checks in rooms of their own at the same time
 A program does not link if the first number of its header is another one. The header is compiled as C99, C11 and C++11 to
 C++20 by each compiler that is installed. What the library takes from its surroundings is six functions. If
 aarch64-linux-gnu-gcc and qemu-aarch64 are installed, the library is built for aarch64, too, and answers.c, closed.c and
@@ -460,7 +461,8 @@ def program(name, top, archive, words, counts, over=None):
     """Returns a program of c/ over a heap, which is the kit's if no other is given; or nothing."""
     made = os.path.join(top, name)
     source = os.path.join(SOURCES, name + ".c")
-    words = ["cc", "-std=c99", *STRICT, *words, source, archive, over or heap(), "-o", made]
+    linked = [over, archive] if over else [archive, heap()]
+    words = ["cc", "-std=c99", *STRICT, *words, source, *linked, "-o", made]
     return made if compiled(words, counts) else None
 
 
@@ -607,6 +609,7 @@ def main():
         within = program("within", top, archive, words, counts, os.path.join(HEAPS, "heap.c"))
         refused = program("refused", top, archive, words, counts, os.path.join(SOURCES, "recording.c"))
         areas = program("areas", top, archive, words, counts, os.path.join(HEAPS, "area.c"))
+        rooms = program("rooms", top, archive, [*words, "-pthread"], counts, os.path.join(HEAPS, "area.c"))
         build_all(binary, top, counts)
         if answers:
             cases(binary, answers, counts)
@@ -617,6 +620,10 @@ def main():
             further(binary, top, calls, counts)
         other_major(top, archive, counts)
         heaps(binary, top, refused, areas, counts)
+        if rooms:
+            names = sorted(os.listdir(top + "/images"))[:100]
+            done = subprocess.run([rooms, *names], cwd=top + "/images", capture_output=True)
+            counts.equal("checks in rooms", (done.stdout, done.stderr), (b"%d images, 0 wrong\n" % len(names), b""))
         if first:
             entries(binary, top, first, counts)
         if nodes:

@@ -161,6 +161,11 @@ static void image(const char *name, const uint8_t *data, size_t len) {
         wants(romtool_check(&other, data, len) == ROMTOOL_MEMORY, "a check over less than is enough");
         wants(romtool_area_blocks() == 0, "blocks that are left after a refusal");
     }
+    other = first;
+    wants(romtool_check_in(&other, data, len, area, most) == error && is_same(&first, &other), "a check in a room");
+    if (most) {
+        wants(romtool_check_in(&other, data, len, area, most - 16) == ROMTOOL_MEMORY, "a check in less room");
+    }
     printf("%s: %" PRIu32 " %" PRIu64 "\n", name, error, (uint64_t)most);
 }
 
