@@ -71,7 +71,15 @@ _start: mov $34, %eax
 syscall
 jmp _start
 """
-TEXTS = {"waiting.c": WAITING, "copied.c": COPIED, "cxx.cc": CXX, "twice.c": LIBRARY, "moved.s": MOVED, "alone.s": ALONE}
+TEXTS = {
+    "waiting.c": WAITING,
+    "copied.c": COPIED,
+    "cxx.cc": CXX,
+    "twice.c": LIBRARY,
+    "moved.s": MOVED,
+    "alone.s": ALONE,
+    "three.s": ALONE + ".skip 8192\n",
+}
 # programs and libraries: the source, and options of the compiler
 BUILT = {
     "bin/separate": ("waiting.c", "-static", "-Wl,-z,separate-code"),
@@ -79,6 +87,7 @@ BUILT = {
     "bin/large": ("waiting.c", "-static", "-Wl,-z,max-page-size=65536"),
     "bin/huge": ("waiting.c", "-static", "-Wl,-z,max-page-size=0x200000"),
     "bin/writable": ("alone.s", "-static", "-nostdlib", "-Wl,-N"),
+    "bin/shared": ("three.s", "-static", "-nostdlib", "-Wl,-z,noseparate-code"),
     "bin/zeros": ("waiting.c", "-static"),
     "bin/copied": ("copied.c", "-static"),
     "bin/dynamic": ("waiting.c", "-s"),
@@ -135,6 +144,8 @@ def make_root(top):
     for library in {it for name in dynamic for it in libraries(f"{root}/bin/{name}")}:
         os.makedirs(root + os.path.dirname(library), exist_ok=True)
         shutil.copy(library, root + library)
+    # it follows the program `shared` in the image, and shares its last page
+    put(f"{root}/bin/shared.data", b"x" * 100)
     put(f"{root}/etc/data", bytes(range(256)) * 41)
     put(f"{root}/etc/loop", b"while :; do sleep 600; done\n")
 
@@ -149,7 +160,8 @@ def make_images(binary, top, counts):
         if built.returncode or os.path.getsize(f"{top}/{name}") > LARGEST:
             counts.fails(f"{name} is not built", [repr(built)])
             return False
-    counts.equal("programs are aligned", " 4096 " in told, True)
+    told = run(binary, "xip", "aligned", cwd=top).stdout.decode()
+    counts.equal("a program shares its last page", re.findall(r"^xip /bin/shared \S+ (.*)\n(\S+)", told, re.M), [("2 1 0", "shared")])
     return True
 
 
@@ -160,7 +172,7 @@ def programs(top):
 
 def add_programs(top):
     """Adds what the `init` reads to the directory that the kernel starts from: the programs, and `flashpages`."""
-    done(["cc", "-O2", "-static", "-o", f"{top}/start/bin/flashpages", f"{SOURCES}/flashpages.c"])
+    done(["cc", "-O2", "-Wall", "-Werror", "-static", "-o", f"{top}/start/bin/flashpages", f"{SOURCES}/flashpages.c"])
     put(f"{top}/start/programs", "".join(f"{it}\n" for it in programs(top)).encode())
 
 
