@@ -33,9 +33,8 @@ ALIGNS = {"aligned": 4096, "unaligned": 4}
 # where the flash begins, and the partitions with their images and addresses; the last one has 32 MiB, the others 64 MiB
 FLASH, PARTS = 0x10000000, {"aligned": ("aligned", 0x10000000), "unaligned": ("unaligned", 0x14000000), "chips": ("aligned", 0x18000000)}
 LARGEST = 0x2000000
-# what is mounted in turn, and the partition that it is of; from two of them Linux copies all
+# what is mounted in turn, and the partition that it is of
 MOUNTS = {"aligned": "aligned", "unaligned": "unaligned", "overlay": "aligned", "chips": "chips"}
-COPYING = ("unaligned", "chips")
 MODULES = ("mtd", "mtd_blkdevs", "mtdblock", "chipreg", "map_rom", "map_funcs", "physmap", "overlay", "cramfs", "physdev")
 WAITING = "#include <unistd.h>\nint main(void) { return pause(); }\n"
 # it writes into a page of its text
@@ -183,16 +182,22 @@ def devices(top):
 
 
 def in_place(binary, top, name):
-    """Returns the number of pages in place of each program of a mount, by the lines of `romtool xip`, less those that it writes itself.
+    """Returns for each program of a mount how many pages are in flash, by the lines of `romtool xip`, and how many by the column of maps.
 
-    If the dynamic linker writes into the text, they are those that it does not write, by the segments that readelf prints.
+    Pages that the program itself writes are not in flash. If the dynamic linker writes into the text, all others of the segments that
+    cannot be written are, by what readelf prints.
     """
-    lines = run(binary, "xip", PARTS[MOUNTS[name]][0], cwd=top).stdout.decode().splitlines()
-    words = {raw(it.split(" ")[1]).decode(): it.split(" ") for it in lines if it.startswith(("xip ", "not "))}
-    if name in COPYING:
-        return dict.fromkeys(words, 0)
-    moved = {path: xip.pages(xip.segments(f"{top}/root{path}"))[0] - RELOCATED[path] for path, it in words.items() if it[3] == "textrel"}
-    return {path: int(it[3]) - WRITTEN.get(path, 0) if it[0] == "xip" else moved.get(path, 0) for path, it in words.items()}
+    found = {}
+    for line in run(binary, "xip", PARTS[MOUNTS[name]][0], cwd=top).stdout.decode().splitlines():
+        kind, path, _, what, *_ = line.split(" ") + [""]
+        path = raw(path).decode()
+        if kind == "xip":
+            count = int(what) - WRITTEN.get(path, 0)
+            found[path] = [count, count + HIDDEN.get(path, 0)]
+        elif kind == "not":
+            count = xip.pages(xip.segments(f"{top}/root{path}"))[0] - RELOCATED[path] if what == "textrel" else 0
+            found[path] = [count, count + HIDDEN[path] if count else 0]
+    return {path: [0, 0] for path in found} if name == "chips" else found
 
 
 def section(lines, begin):
@@ -224,10 +229,8 @@ def compare_process(told, where, wanted, name, path, counts):
     strays = [it for it in told if it[2] != "0" and int(it[1], 16) not in where.get(it[0], ())]
     counts.equal(f"{name}: {path}: pages in flash at other addresses than the files' bytes", strays, [])
     for file, numbers in sorted(found.items()):
-        file = file.removeprefix("/mnt")
-        count = wanted.get(file, -1)
-        hidden = 0 if name in COPYING else HIDDEN.get(file, 0)
-        counts.equal(f"{name}: {path}: pages of {file} in flash, and by the column of maps", numbers, [count, count + hidden])
+        inside = file.removeprefix("/mnt")
+        counts.equal(f"{name}: {path}: pages of {inside} in flash, and by the column of maps", numbers, wanted.get(inside))
 
 
 def compare_pages(binary, top, lines, counts):
