@@ -23,11 +23,14 @@ BLOCK_MODULES = ("loop", "mtd", "romfs", "cramfs")
 PLACES = {
     "loop": "drivers/block",
     "mtd": "drivers/mtd",
+    "mtd_blkdevs": "drivers/mtd",
+    "mtdblock": "drivers/mtd",
     "romfs": "fs/romfs",
     "chipreg": "drivers/mtd/chips",
     "map_rom": "drivers/mtd/chips",
     "map_funcs": "drivers/mtd/maps",
     "physmap": "drivers/mtd/maps",
+    "overlay": "fs/overlayfs",
 }
 MAKEFILE = """obj-m := %s
 cramfs-objs := inode.o uncompress.o
