@@ -7,7 +7,7 @@ ghost use Rattle.image_manifest.specs.Describable.{IsLawfulTree};
 ghost use Rattle.rom_commands.specs.Asked.{Fits};
 
 use crate::dump::DumpFile;
-use crate::output::{errors, lines, output, terminal};
+use crate::output::{errors, has_colours, lines, output, terminal};
 use crate::patterns::{all_pieces, only};
 use crate::printed::in_file;
 use crate::reading::Unread;
@@ -153,8 +153,12 @@ pub fn show(
 ) -> Result<Status, Status>
     requires { Fits asked (length bytes.now) }
 {
-    let (mut out, mut err) = (output(reporter)?, errors(reporter.rt));
-    let ending = print(reporter.rt.alloc(), bytes, asked, &mut out, &mut err);
+    let (alloc, mut err) = (reporter.rt.alloc(), errors(reporter.rt));
+    let ending = if asked == Asked::Report && has_colours(reporter.rt) {
+        print(alloc, bytes, asked, &mut lines(reporter.rt), &mut err)
+    } else {
+        print(alloc, bytes, asked, &mut output(reporter)?, &mut err)
+    };
     reporter.finish_image(err, ending, name, bytes);
     if ending == Ending::Warned && reporter.is_explained() {
         explain_warning(reporter, name, bytes, asked);
