@@ -24,7 +24,7 @@ const RED: &[u8] = b"\x1b[31m";
 
 const END: &[u8] = b"\x1b[0m";
 
-/// Standard output, by one write for each line. At a terminal, lines have colours.
+/// Standard output, by one write for each line.
 pub type Lines<'a> = Plain<Held<Coloured<Printer<'a, HostRuntime>>>>;
 
 /// Standard error, by one write for each line.
@@ -84,18 +84,21 @@ pub struct Coloured<W> {
     inner: W,
     has_colours: bool,
     is_front: bool,
+    is_coloured: bool,
 }
 
 impl<W: Write> Coloured<W> {
     /// Writes a byte of a line.
     fn put(&mut self, byte: u8) -> io::Result<()> {
-        match byte {
-            b'o' if self.is_front => self.inner.write_all(GREEN)?,
-            b'f' if self.is_front => self.inner.write_all(RED)?,
-            b'\n' => self.inner.write_all(END)?,
-            _ => {}
-        }
+        let colour = match byte {
+            b'o' if self.is_front => GREEN,
+            b'f' if self.is_front => RED,
+            b'\n' if self.is_coloured => END,
+            _ => &[],
+        };
+        self.inner.write_all(colour)?;
         self.is_front = byte == b'\n';
+        self.is_coloured = !self.is_front && (self.is_coloured || !colour.is_empty());
         self.inner.write_all(&[byte])
     }
 }
@@ -127,14 +130,25 @@ pub fn has_colours(rt: &HostRuntime) -> bool {
     !is_off && rt.stdout().is_terminal()
 }
 
-/// Returns standard output for single lines.
-pub fn lines(rt: &HostRuntime) -> Lines<'_> {
+/// Standard output for single lines, with or without colours.
+fn single_lines(rt: &HostRuntime, has_colours: bool) -> Lines<'_> {
     let lines = Coloured {
         inner: io::writer(rt),
-        has_colours: has_colours(rt),
+        has_colours,
         is_front: true,
+        is_coloured: false,
     };
     Plain::new(Held::new(rt.alloc(), lines))
+}
+
+/// Returns standard output for single lines.
+pub fn lines(rt: &HostRuntime) -> Lines<'_> {
+    single_lines(rt, false)
+}
+
+/// Returns standard output for the lines `ok` and `fault`, which a terminal shows in colours.
+pub fn coloured(rt: &HostRuntime) -> Lines<'_> {
+    single_lines(rt, has_colours(rt))
 }
 
 /// Returns standard error.
