@@ -17,7 +17,7 @@ import threading
 import pytest
 from edges import failed, fault, hello, leave, part, said
 from files import bytes_in, put, wait_for_clock, wait_until, write_below
-from harness import SECONDS
+from harness import SECONDS, end_by_signals
 from rooms import NOBODY, become_nobody
 from romtool import prints, refuses
 from traced import calls
@@ -82,7 +82,8 @@ def test_killed_pack(romtool, scanned, number):
     assert romtool(*pack())[2] == 0
     image, left = bytes_in("d/out"), 0
     for pause in range(12):
-        with subprocess.Popen([romtool.path, *pack()], stdout=subprocess.DEVNULL, stderr=subprocess.DEVNULL) as running:
+        how = {"stdout": subprocess.DEVNULL, "stderr": subprocess.DEVNULL, "preexec_fn": end_by_signals}
+        with subprocess.Popen([romtool.path, *pack()], **how) as running:
             with contextlib.suppress(subprocess.TimeoutExpired):
                 running.wait(pause / 300)
             running.send_signal(number)
