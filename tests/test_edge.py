@@ -152,7 +152,7 @@ RENAMED, REMOVED, SYNCED = 'rename ".out.romtool-0.part", "out"', 'unlink ".out.
 
 
 @pytest.mark.needs("strace")
-@pytest.mark.parametrize("old", [None, b"old"])
+@pytest.mark.parametrize("old", [None, b"old"], ids=["new", "old"])
 @pytest.mark.parametrize("call, when, steps", [
     (None, 0, [RENAMED, SYNCED]), ("fsync", 1, [REMOVED]), ("rename", 1, [RENAMED, REMOVED]), ("fsync", 2, [RENAMED, SYNCED]),
 ])  # fmt: skip
@@ -470,7 +470,7 @@ def test_entries_of_a_scan(romtool):
 
 @pytest.mark.needs("strace")
 @pytest.mark.parametrize("format", FORMATS)
-@pytest.mark.parametrize("old", [None, b"old"])
+@pytest.mark.parametrize("old", [None, b"old"], ids=["new", "old"])
 @pytest.mark.parametrize("what", FAULTS)
 def test_each_call_failed(romtool, what, old, format):
     """Leaves OUT wholly old or wholly new, and no part, whichever call of a build fails."""

@@ -60,7 +60,7 @@ def on_part(made):
 
 
 @pytest.mark.needs("strace")
-@pytest.mark.parametrize("old", [None, b"old"])
+@pytest.mark.parametrize("old", [None, b"old"], ids=["new", "old"])
 @pytest.mark.parametrize("format", FORMATS)
 def test_one_descriptor(romtool, format, old):
     """Writes the part, synchronizes it to the disk, removes its mark, closes and renames it, in this order, through one descriptor."""
@@ -72,7 +72,7 @@ def test_one_descriptor(romtool, format, old):
 
 
 @pytest.mark.needs("strace")
-@pytest.mark.parametrize("old", [None, b"old"])
+@pytest.mark.parametrize("old", [None, b"old"], ids=["new", "old"])
 @pytest.mark.parametrize("error", FAULTS)
 def test_closing_of_a_part(romtool, error, old):
     """Leaves OUT and removes the part if its closing reports that it was lost."""

@@ -26,7 +26,7 @@ def small(here):
 
 
 @pytest.mark.needs("strace")
-@pytest.mark.parametrize("stranger", [b"stranger", None])
+@pytest.mark.parametrize("stranger", [b"stranger", None], ids=["stranger", "nothing"])
 def test_part_of_another_file(romtool, stranger):
     """Renames and removes nothing if the part's name leads to another file, or to none."""
 

@@ -256,7 +256,7 @@ def test_sockets(recipe):
 # what is refused
 
 
-@pytest.mark.parametrize(("words", "status", "said"), [
+REFUSED = [
     ((), 2, b"romtool-tar.sh: no command: \nusage: "), (("fly",), 2, b"romtool-tar.sh: no command: fly\nusage: "),
     (("pack", "cramfs", "in.tar"), 2, b"romtool-tar.sh: pack needs"), (("unpack", "image"), 2, b"romtool-tar.sh: unpack needs"),
     (("unpack", "image", "new", "more"), 2, b"romtool-tar.sh: unpack needs"),
@@ -267,7 +267,10 @@ def test_sockets(recipe):
     (("unpack", "none", "out"), 3, b"file none\nromtool: none: "), (("unpack", "out", "out"), 1, b"fault "),
     (("unpack", "image", "none/out"), 3, b"romtool-tar.sh: tar cannot write the archive\n"),
     (("unpack", "image", "temporary"), 3, b"romtool-tar.sh: tar cannot write the archive\n"),
-])  # fmt: skip
+]  # fmt: skip
+
+
+@pytest.mark.parametrize(("words", "status", "said"), REFUSED, ids=[" ".join(it[0]) or "no command" for it in REFUSED])
 def test_refused(recipe, words, status, said):
     """Says what is wrong, with a status, and leaves what was there."""
     recipe.make("mkdir tree", f"{ARCHIVE} -cf in.tar .")
