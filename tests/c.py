@@ -36,10 +36,10 @@ import subprocess
 import sys
 import tempfile
 
-import explain
 import formats
 import images
 import run
+import sentences
 from harness import HERE, SECONDS, Counts, missing, parser, program_of
 from images import BLOCK
 
@@ -196,7 +196,7 @@ def header(binary, top, program, counts):
     major, minor, patch = (int(it) for it in version.split("."))
     wanted = "%s %d" % (version, 10000 * major + 100 * minor + patch)
     counts.equal("header.c", (done.returncode, lines[:1]), (0, [wanted]))
-    names = {number: name for number, (name, _) in explain.FAULTS.items()}
+    names = {number: name for number, (name, _) in sentences.FAULTS.items()}
     counts.equal("names of faults", lines[1:41], [names.get(it, "Unknown") for it in range(40)])
     words = [it for it, line in enumerate(lines[41:]) if line != "unknown error"]
     counts.equal("errors in words", words, [0, 1, 2, 3, 4, 5, 6, 7, 8, 10, 13, 14, 15, 16, 17])

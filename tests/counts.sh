@@ -4,6 +4,10 @@ passed=0
 failed=0
 skipped=0
 
+# what the tests share with whoever starts them: no variable that changes what the program says, and an open standard input
+unset ROMTOOL_EXPLAIN ROMTOOL_MAX_SIZE
+(exec 3<&0) 2>/dev/null || exec </dev/null
+
 # note NAME STATUS: counts a test that passed, if the status is 0, or failed.
 note() {
     if [ "$2" = 0 ]; then

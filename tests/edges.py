@@ -1,5 +1,5 @@
 """What the tests of builds and extractions share, whose files have relative names in the current directory: the manifest `m`, the files
-beside OUT, and runs one of whose calls of the system fails or is held up."""
+beside OUT, and runs one of whose calls of the system fails, or that are stopped after one."""
 
 import contextlib
 import os
@@ -7,13 +7,13 @@ from pathlib import Path
 
 import traced
 from conftest import Image
-from files import bytes_in, put
+from files import bytes_in, put, wait_for_clock
 from romtool import answer
 
 HELLO = b"file /a 0644 0 0 4 a\n"
 OK = b"ok 1024\n", b"", 0
 USAGE = b"", b"usage\n", 2
-DELAYS = (0.3, 1.5, 6.0)  # seconds for which a call is held up: longer if the machine was too slow
+TRIES = 10  # of a call that a build leaves out if the machine was too slow
 
 
 def fault(name, words=b""):
@@ -100,16 +100,18 @@ def failed(romtool, words, call, what, when=None, **more):
     return answer(traced.run(romtool.path, *words, told=traced.inject(call, what, when), **more))
 
 
-def held_up(romtool, format, call, when, prepare):
-    """Returns how a build ends if something is changed while one of its calls is held up.
+def changed_after(romtool, words, call, number, prepare):
+    """Returns how a run ends if something is changed while it is stopped after one of its calls, or None if it does not make this call.
 
-    `prepare` lays out the directory before each try, and returns what is then to be done.
+    `prepare` lays out the directory, and returns what is then to be done. Before the run no file is changed any more for a tenth of a
+    second: so it does not wait until a later change has another time.
     """
-    for delay in DELAYS:
+    for _ in range(TRIES):
         change = prepare()
-        with traced.Held(romtool.path, ["build", format, "m", "out"], call, when, delay) as held:
-            with contextlib.suppress(FileNotFoundError):
+        wait_for_clock(".", 0.1)
+        with traced.Held(romtool.path, words, call, number) as held:
+            if held.is_held:
                 change()
-        if held.answer is None or held.answer[2]:
-            break
-    return held.answer
+        if held.is_held:
+            return held.answer
+    return None

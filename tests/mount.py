@@ -38,7 +38,7 @@ import c
 import formats
 import fuse
 from files import bytes_in, put, repository_text, wait_until
-from harness import SECONDS, TOP, Counts, missing, parser, program_of
+from harness import SECONDS, TOP, Counts, end_by_signals, missing, parser, program_of
 from images import PLAIN, romfs_list, with_sums
 from romtool import FORMATS, entries_of, pieces_of, raw, run
 from rooms import IS_ROOT, NOBODY, become_nobody
@@ -66,7 +66,8 @@ class Mounter:
     @contextlib.contextmanager
     def mounted(self, image, *options, program=None):
         """Yields the running process that shows an image in `folder`, or nothing if it refuses it. At the end it is unmounted."""
-        server = subprocess.Popen([program or self.program, image, self.folder, "-f", *options], stderr=subprocess.DEVNULL)
+        words = [program or self.program, image, self.folder, "-f", *options]
+        server = subprocess.Popen(words, stderr=subprocess.DEVNULL, preexec_fn=end_by_signals)
         wait_until(lambda: os.path.ismount(self.folder) or server.poll() is not None)
         try:
             yield server if os.path.ismount(self.folder) else None

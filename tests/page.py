@@ -239,7 +239,7 @@ def explained(browser, counts):
     text = repository_text("docs/FAULTS.md")
     usual = told_by_page(re.search(r"^(In most cases .*?)\sThen copy or build the image again\.", text, re.M | re.S)[1])
     sections = text.partition("\n## By number\n")[2].split("\n### ")[1:]
-    counts.equal("sections of FAULTS.md", [int(it.split()[0]) for it in sections], sorted(c.explain.FAULTS))
+    counts.equal("sections of FAULTS.md", [int(it.split()[0]) for it in sections], sorted(c.sentences.FAULTS))
     for section in sections:
         number = int(section.split()[0])
         body = section.split("\n\n", 2)[2]
@@ -268,7 +268,7 @@ def bad_images(browser, binary, top, counts):
         put(os.path.join(top, name), image)
         browser.give(os.path.join(top, name))
         told = c.said([binary, "check", name], cwd=top).stdout.decode().strip()
-        sentence = c.explain.FAULTS[int(told.split()[1])][1]
+        sentence = c.sentences.FAULTS[int(told.split()[1])][1]
         line, words = browser.value("[at('line').textContent, at('sentence').textContent]")
         counts.equal("verdict on " + name, (line, words.lower().startswith(sentence.lower())), (told, True))
         place = int(told.split()[-1])

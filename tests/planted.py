@@ -73,6 +73,7 @@ LIBRARY = """#define _GNU_SOURCE
 #include <stdlib.h>
 #include <string.h>
 #include <sys/stat.h>
+#include <time.h>
 #include <unistd.h>
 #define REAL(name) ((__typeof__(&name))dlsym(RTLD_NEXT, #name))
 %s
@@ -81,6 +82,9 @@ MEMORY = 'fputs("memory\\n", stderr); return 3;'
 OPEN = "int open(const char *path, int flags, ...) { va_list it; va_start(it, flags); int mode = va_arg(it, int); %s }"
 STATX = "int statx(int at, const char *path, int flags, unsigned mask, struct statx *it) { %s }"
 STAT = STATX % "int got = REAL(statx)(at, path, flags, mask, it); %s return got;"
+# the state of the source `s` that is asked of its name is always, or after a pause, the first one
+LOOK = 'static struct statx s; if (!strcmp(path, "s") && S_ISREG(it->stx_mode)) { if (!s.stx_mask || !(%s)) s = *it; *it = s; }'
+SLEEP = "int late; int nanosleep(const struct timespec *it, struct timespec *left) { late = 1; return REAL(nanosleep)(it, left); }\n"
 WRITE = "ssize_t write(int file, const void *from, size_t count) { ssize_t got = REAL(write)(file, from, count); %s }"
 LEFT_OUT = "many_files or root_that_may_not_be_listed"  # a test that takes a minute, and one that copies the program elsewhere
 TO_OUTPUT = "cat $err >>$out; : >$err"
@@ -428,6 +432,8 @@ ERRORS = {
         ("check /dev/stdin", "head -c 1 >/dev/null"),
         ("xip image", "echo more >>$err"),
         ("serve image", "[ -s $err ] && status=0"),
+        ("calls", STAT % (LOOK % "1")),
+        ("calls", SLEEP + STAT % (LOOK % "late")),
         ("calls", "int fsync(int file) { return 0; }"),
         ("calls", "int fsync(int file) { REAL(fsync)(file); return 0; }"),
         ("calls", "int rename(const char *from, const char *to) { unlink(to); return REAL(rename)(from, to); }"),

@@ -160,7 +160,7 @@ def header(counts):
     with open(c.INCLUDE + "/romtool.h", encoding="utf-8") as file:
         text = file.read()
     library, errors = module("_library"), module("_errors")
-    counts.equal("names of faults", errors.FAULTS, {number: name for number, (name, _) in c.explain.FAULTS.items()})
+    counts.equal("names of faults", errors.FAULTS, {number: name for number, (name, _) in c.sentences.FAULTS.items()})
     constants = {name: int(number) for name, number in re.findall(r"#define (ROMTOOL_\w+) (\d+)u\b", text)}
     words = {constants[name]: said for name, said in re.findall(r'case (ROMTOOL_\w+): return "(.*)";', text)}
     others = {0, *(constants["ROMTOOL_" + it] for it in ("CLOSED", "FAULT", "MEMORY", "NUMBERS"))}

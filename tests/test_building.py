@@ -125,7 +125,9 @@ def test_strict(romtool, format, text, line, what):
     assert what == "Empty" or f" {what} " in romtool("linux", "out")[0].decode()
 
 
-@pytest.mark.parametrize("format, more", [("romfs", ""), ("cramfs", ""), ("cramfs", "same /b 0644 1 2 /a\n")])
+@pytest.mark.parametrize(
+    "format, more", [("romfs", ""), ("cramfs", ""), ("cramfs", "same /b 0644 1 2 /a\n")], ids=["romfs", "cramfs", "same"]
+)
 def test_nothing_to_warn_of(romtool, format, more):
     """Builds with `--strict` what nothing is warned of, such as files that share their contents and are alike."""
     lay(f"file /a 0644 {'1 2' if more else '0 0'} 4 byte\n{more}", byte=b"x")
@@ -250,8 +252,13 @@ def test_sources_of_rules(romtool):
     assert considered("out") == ["out", "m", *ODD]
 
 
+def word_of(name):
+    """Returns a name as a manifest writes it: in one word."""
+    return escaped(name.encode())
+
+
 @pytest.mark.needs("make")
-@pytest.mark.parametrize("out", [it for it in ODD if it not in ("a", "-a")])
+@pytest.mark.parametrize("out", [it for it in ODD if it not in ("a", "-a")], ids=word_of)
 def test_outputs_of_rules(romtool, out):
     """Lets make read OUT in a rule."""
     lay(HELLO.decode(), a=b"x")
@@ -271,7 +278,7 @@ def test_rules(romtool):
         assert bytes_in("d") == rule
 
 
-@pytest.mark.parametrize("name", UNSAYABLE)
+@pytest.mark.parametrize("name", UNSAYABLE, ids=word_of)
 def test_unsayable_rules(romtool, name):
     """Ends a build before anything is written if make cannot read a name."""
     for it in "d", "out":

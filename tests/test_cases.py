@@ -9,8 +9,9 @@ import re
 
 import pytest
 from big_endian import is_turned, turned_case
-from explain import BAD_LINES, CALLS, FAULTS, MANIFESTS, MISFITS, explained, wrong_in
+from explain import explained, wrong_in
 from run import bytes_of, lay_out, named_cases, started, wrong_run
+from sentences import BAD_LINES, CALLS, FAULTS, MANIFESTS, MISFITS
 
 
 def is_explained(case):

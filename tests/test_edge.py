@@ -17,7 +17,7 @@ import time
 
 import pytest
 import traced
-from edges import HELLO, OK, failed, fault, held_at, held_up, hello, lay, lay_old, part, parts, wanted
+from edges import HELLO, OK, changed_after, failed, fault, held_at, hello, lay, lay_old, part, parts, wanted
 from files import bytes_in, innermost, put
 from romtool import FORMATS, answer, run
 from rooms import NOBODY, become_nobody
@@ -152,7 +152,7 @@ RENAMED, REMOVED, SYNCED = 'rename ".out.romtool-0.part", "out"', 'unlink ".out.
 
 
 @pytest.mark.needs("strace")
-@pytest.mark.parametrize("old", [None, b"old"])
+@pytest.mark.parametrize("old", [None, b"old"], ids=["new", "old"])
 @pytest.mark.parametrize("call, when, steps", [
     (None, 0, [RENAMED, SYNCED]), ("fsync", 1, [REMOVED]), ("rename", 1, [RENAMED, REMOVED]), ("fsync", 2, [RENAMED, SYNCED]),
 ])  # fmt: skip
@@ -281,10 +281,11 @@ SOURCE_CHANGES = {
 
 @pytest.mark.needs("strace")
 @pytest.mark.parametrize("format", FORMATS)
-@pytest.mark.parametrize("when", ["before", "in", "after"])
+@pytest.mark.parametrize("when", ["before", "in", "read", "written", "looked"])
 @pytest.mark.parametrize("what", SOURCE_CHANGES)
 def test_changed_while_read(romtool, what, when, format):
-    """Ends the build if a source changes before it is opened, while it is read, or when all of it was read."""
+    """Ends the build if a source changes: before it is opened; while it is read; after the last byte was read or written; or after all
+    sources were looked at once more, and before the second such look, for which a build waits if a source is less than a second old."""
 
     def prepare():
         with contextlib.suppress(FileNotFoundError):
@@ -294,9 +295,14 @@ def test_changed_while_read(romtool, what, when, format):
 
     prepare()
     made, _ = traced.calls(romtool.path, "build", format, "m", "wanted")
-    last = max(it.number for it in made if it.name == "pread64")
-    call, number = {"before": ("fchmod", 1), "in": ("pread64", 3), "after": ("pread64", last)}[when]
-    assert held_up(romtool, format, call, number, prepare) in (CHANGED, fault("s") if what == "gone" else CHANGED)
+    read = [it for it in made if it.name == "pread64"][-1]
+    written = [it for it in made if it.name in ("write", "pwrite64") and not it.text.startswith("write(1, ")][-1]
+    call, number = {
+        "before": ("fchmod", 1), "in": ("pread64", 3), "read": (read.name, read.number), "written": (written.name, written.number),
+        "looked": ("clock_nanosleep", 1),
+    }[when]  # fmt: skip
+    told = changed_after(romtool, ["build", format, "m", "out"], call, number, prepare)
+    assert told == CHANGED or (told, what) == (fault("s"), "gone")
     assert (bytes_in("out"), parts()) == (b"as it was", [])
 
 
@@ -470,7 +476,7 @@ def test_entries_of_a_scan(romtool):
 
 @pytest.mark.needs("strace")
 @pytest.mark.parametrize("format", FORMATS)
-@pytest.mark.parametrize("old", [None, b"old"])
+@pytest.mark.parametrize("old", [None, b"old"], ids=["new", "old"])
 @pytest.mark.parametrize("what", FAULTS)
 def test_each_call_failed(romtool, what, old, format):
     """Leaves OUT wholly old or wholly new, and no part, whichever call of a build fails."""

@@ -18,8 +18,8 @@ import subprocess
 import fuse
 import pytest
 import traced
-from edges import HELLO, OK, failed, fault, held_at, hello, lay, lay_old, parts, wanted
-from files import bytes_in, put
+from edges import HELLO, OK, changed_after, failed, fault, held_at, hello, lay, lay_old, parts, wanted
+from files import bytes_in, put, wait_for_clock
 from harness import SECONDS
 from romtool import FORMATS
 from rooms import NOBODY, become_nobody
@@ -60,7 +60,7 @@ def on_part(made):
 
 
 @pytest.mark.needs("strace")
-@pytest.mark.parametrize("old", [None, b"old"])
+@pytest.mark.parametrize("old", [None, b"old"], ids=["new", "old"])
 @pytest.mark.parametrize("format", FORMATS)
 def test_one_descriptor(romtool, format, old):
     """Writes the part, synchronizes it to the disk, removes its mark, closes and renames it, in this order, through one descriptor."""
@@ -72,7 +72,7 @@ def test_one_descriptor(romtool, format, old):
 
 
 @pytest.mark.needs("strace")
-@pytest.mark.parametrize("old", [None, b"old"])
+@pytest.mark.parametrize("old", [None, b"old"], ids=["new", "old"])
 @pytest.mark.parametrize("error", FAULTS)
 def test_closing_of_a_part(romtool, error, old):
     """Leaves OUT and removes the part if its closing reports that it was lost."""
@@ -279,18 +279,26 @@ def test_source_that_is_a_link(romtool, source, is_link):
 def test_source_that_becomes_a_link(romtool):
     """Does not follow with --no-follow a source that becomes a link between two calls of the system."""
     words = ["build", "--no-follow", "romfs", "m", "out"]
-    lay("file /a 0644 0 0 4 s\n", s=b"hello", secret=b"a secret that nobody is to read")
-    made, _ = traced.calls(romtool.path, *words)
-    asked = [it for it in made if it.name in ("statx", "openat") and '"s"' in it.text]
-    assert len(asked) >= 4
-    for call in asked[1:]:
-        lay_old(None)
+
+    def become_link():
         os.remove("s")
-        put("s", b"hello")
-        with traced.Held(romtool.path, words, call.name, call.number, 1) as held:
+        os.symlink("secret", "s")
+
+    def prepare():
+        lay_old(None)
+        with contextlib.suppress(FileNotFoundError):
             os.remove("s")
-            os.symlink("secret", "s")
-        assert held.answer and held.answer[2] == 3 and not os.path.exists("out") and parts() == [], call.text
+        lay("file /a 0644 0 0 4 s\n", s=b"hello", secret=b"a secret that nobody is to read")
+        return become_link
+
+    prepare()
+    wait_for_clock(".", 0.1)
+    made, _ = traced.calls(romtool.path, *words)
+    asked = [at for at, it in enumerate(made) if it.name in ("statx", "openat") and '"s"' in it.text]
+    assert len(asked) >= 4
+    for at in asked[1:]:
+        told = changed_after(romtool, words, made[at - 1].name, made[at - 1].number, prepare)
+        assert told and told[2] == 3 and not os.path.exists("out") and parts() == [], made[at].text
 
 
 @pytest.mark.needs("strace")

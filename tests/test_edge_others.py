@@ -15,9 +15,9 @@ import subprocess
 import threading
 
 import pytest
-from edges import failed, fault, hello, leave, part, said
+from edges import changed_after, failed, fault, hello, leave, part, said
 from files import bytes_in, put, wait_for_clock, wait_until, write_below
-from harness import SECONDS
+from harness import SECONDS, end_by_signals
 from rooms import NOBODY, become_nobody
 from romtool import prints, refuses
 from traced import calls
@@ -82,7 +82,8 @@ def test_killed_pack(romtool, scanned, number):
     assert romtool(*pack())[2] == 0
     image, left = bytes_in("d/out"), 0
     for pause in range(12):
-        with subprocess.Popen([romtool.path, *pack()], stdout=subprocess.DEVNULL, stderr=subprocess.DEVNULL) as running:
+        how = {"stdout": subprocess.DEVNULL, "stderr": subprocess.DEVNULL, "preexec_fn": end_by_signals}
+        with subprocess.Popen([romtool.path, *pack()], **how) as running:
             with contextlib.suppress(subprocess.TimeoutExpired):
                 running.wait(pause / 300)
             running.send_signal(number)
@@ -124,18 +125,21 @@ def test_replaced_after_the_scan(romtool, here):
 @pytest.mark.parametrize("moment", range(2))
 def test_replaced_before_it_is_opened(romtool, here, moment):
     """Reports a source that was replaced after its directory was scanned, at each open of it: `changed`, or as a file that changed."""
-    write_below("u", {"x": "AAAA"})
-    put("y", b"BBBB")
     words = ["pack", "--quiet", "--all-root", "--align", "4096", "cramfs", "u", "out"]
-    opens = [it.number for it in calls(romtool.path, *words)[0] if it.name == "openat" and '"u/x"' in it.text]
+
+    def prepare():
+        write_below("u", {"x": "AAAA"})
+        put("y", b"BBBB")
+        return lambda: os.rename("y", "u/x")
+
+    prepare()
+    wait_for_clock(".", 0.1)
+    made = calls(romtool.path, *words)[0]
+    opens = [at for at, it in enumerate(made) if it.name == "openat" and '"u/x"' in it.text]
     assert len(opens) == 2  # for its alignment and for its bytes
     os.remove("out")
-    room = ["strace", "-o", os.devnull, "-e", "trace=openat", "-e", f"inject=openat:delay_enter=400000:when={opens[moment]}"]
-    with subprocess.Popen([*room, romtool.path, *words], stdout=-1, stderr=-1) as running:
-        with contextlib.suppress(subprocess.TimeoutExpired):
-            running.wait(0.2)
-        os.rename("y", "u/x")
-        answer = *running.communicate(timeout=SECONDS), running.returncode
+    before = made[opens[moment] - 1]
+    answer = changed_after(romtool, words, before.name, before.number, prepare)
     assert answer in ((b"", b"changed\n", 3), (b"", b"file u/x\n", 3)) and not os.path.exists("out")
 
 

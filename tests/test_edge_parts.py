@@ -12,7 +12,7 @@ import stat
 import subprocess
 
 import pytest
-from edges import OK, failed, fault, held_at, held_up, hello, lay, leave, part, parts, wanted
+from edges import OK, changed_after, failed, fault, held_at, hello, lay, leave, part, parts, wanted
 from files import bytes_in, put, wait_until
 
 CHANGED = b"", b"changed\n", 3
@@ -26,7 +26,7 @@ def small(here):
 
 
 @pytest.mark.needs("strace")
-@pytest.mark.parametrize("stranger", [b"stranger", None])
+@pytest.mark.parametrize("stranger", [b"stranger", None], ids=["stranger", "nothing"])
 def test_part_of_another_file(romtool, stranger):
     """Renames and removes nothing if the part's name leads to another file, or to none."""
 
@@ -39,7 +39,7 @@ def test_part_of_another_file(romtool, stranger):
         put("out", b"as it was")
         return take_away
 
-    assert held_up(romtool, "romfs", "fsync", 1, prepare) == CHANGED
+    assert changed_after(romtool, BUILD, "fsync", 1, prepare) == CHANGED
     assert (bytes_in("out"), held_at(part(0)), os.path.exists("aside")) == (b"as it was", stranger, True)
 
 
@@ -150,7 +150,7 @@ def test_manifests_that_change(romtool, change, when):
         put("out", b"as it was")
         return change
 
-    assert held_up(romtool, "romfs", "pread64", when, prepare) == CHANGED
+    assert changed_after(romtool, BUILD, "pread64", when, prepare) == CHANGED
     assert (bytes_in("out"), parts()) == (b"as it was", [])
 
 

@@ -27,7 +27,7 @@ from conftest import Image
 from edges import USAGE, build, failed, fault
 from files import bytes_in, put, remove
 from formats import volume_of
-from harness import HERE, SECONDS
+from harness import HERE, SECONDS, end_by_signals
 from romtool import KINDS, WORDS, answer, entries_of, escaped, raw
 from rooms import IS_ROOT, NOBODY, become_nobody
 
@@ -593,9 +593,7 @@ def test_interrupted(romtool, small, there, mode, name):
     """Leaves the mode of a directory that is there after a signal, and one that was made to its owner."""
     if there:
         os.mkdir("out", 0o755)
-    before = signal.signal(signal.SIGINT, signal.default_int_handler)  # a shell in the background hands on that it is ignored
-    failed(romtool, ["extract", "image", "out"], "write", "signal=" + name, 1)
-    signal.signal(signal.SIGINT, before)
+    failed(romtool, ["extract", "image", "out"], "write", "signal=" + name, 1, preexec_fn=end_by_signals)
     assert stat.S_IMODE(os.stat("out").st_mode) == mode and not os.path.exists("out/.romtool-probe")
 
 

@@ -32,7 +32,7 @@ def tiny(here):
 
 @pytest.mark.parametrize(("words", "rest"), [
     ("--size 8K", b"\xff" * 7168), ("--size=8192 --fill 0", bytes(7168)), ("--size 0x2000 --fill 0x5a", b"Z" * 7168), ("--size 1K", b""),
-])  # fmt: skip
+], ids=["ones", "zeros", "letters", "nothing"])  # fmt: skip
 def test_partition(romtool, tiny, words, rest):
     """Writes the bytes of a partition: the image, and then others."""
     assert romtool.line("pack --quiet --all-root romfs tiny image") == prints("ok 1024")

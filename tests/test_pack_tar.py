@@ -16,7 +16,7 @@ import typing
 
 import pytest
 from files import bytes_in, put, wait_until
-from harness import SECONDS, TOP
+from harness import SECONDS, TOP, end_by_signals
 from romtool import FORMATS, entries, escaped, raw
 from rooms import IS_ROOT, become_nobody
 
@@ -65,6 +65,13 @@ KINDS = {
 }
 
 
+def prepare():
+    """Makes a process that of an ordinary user, if that can be, which ends by signals."""
+    end_by_signals()
+    if IS_ROOT:
+        become_nobody()
+
+
 class Recipe:
     """Runs the recipe in the current directory, as an ordinary user if that can be, with an own directory for temporary files."""
 
@@ -74,7 +81,6 @@ class Recipe:
         self.environment = {**os.environ, "TMPDIR": os.path.abspath("temporary"), "ROMTOOL": os.path.abspath("romtool")}
         for name in "FAKEROOTKEY", "ROMTOOL_EXPLAIN":
             self.environment.pop(name, None)
-        self.how = {"preexec_fn": become_nobody} if IS_ROOT else {}
         os.chmod(".", 0o777)
         os.chmod("temporary", 0o777)
         shutil.copy(SCRIPT, "romtool-tar.sh")
@@ -82,7 +88,7 @@ class Recipe:
     def start(self, *words, **more):
         """Starts the recipe."""
         pipe = subprocess.PIPE
-        how = {"stdin": subprocess.DEVNULL, "stdout": pipe, "stderr": pipe, "env": self.environment, **self.how}
+        how = {"stdin": subprocess.DEVNULL, "stdout": pipe, "stderr": pipe, "env": self.environment, "preexec_fn": prepare}
         return subprocess.Popen(words, **{**how, **more})
 
     def run(self, *words, given=None, **more):
@@ -250,7 +256,7 @@ def test_sockets(recipe):
 # what is refused
 
 
-@pytest.mark.parametrize(("words", "status", "said"), [
+REFUSED = [
     ((), 2, b"romtool-tar.sh: no command: \nusage: "), (("fly",), 2, b"romtool-tar.sh: no command: fly\nusage: "),
     (("pack", "cramfs", "in.tar"), 2, b"romtool-tar.sh: pack needs"), (("unpack", "image"), 2, b"romtool-tar.sh: unpack needs"),
     (("unpack", "image", "new", "more"), 2, b"romtool-tar.sh: unpack needs"),
@@ -261,7 +267,10 @@ def test_sockets(recipe):
     (("unpack", "none", "out"), 3, b"file none\nromtool: none: "), (("unpack", "out", "out"), 1, b"fault "),
     (("unpack", "image", "none/out"), 3, b"romtool-tar.sh: tar cannot write the archive\n"),
     (("unpack", "image", "temporary"), 3, b"romtool-tar.sh: tar cannot write the archive\n"),
-])  # fmt: skip
+]  # fmt: skip
+
+
+@pytest.mark.parametrize(("words", "status", "said"), REFUSED, ids=[" ".join(it[0]) or "no command" for it in REFUSED])
 def test_refused(recipe, words, status, said):
     """Says what is wrong, with a status, and leaves what was there."""
     recipe.make("mkdir tree", f"{ARCHIVE} -cf in.tar .")

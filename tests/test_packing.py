@@ -207,7 +207,7 @@ def test_printed(romtool, tree, words):
     assert romtool.line(f"scan --all {words}") == prints(*PRINTED[words])
 
 
-@pytest.mark.parametrize("words", REFUSED, ids=lambda it: it[:80])
+@pytest.mark.parametrize("words", REFUSED, ids=lambda it: it.replace(READ, "..")[:60])
 def test_refused(romtool, tree, words):
     """Compares how commands are refused, which leave all files as they were."""
     before = contents()

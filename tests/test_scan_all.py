@@ -120,7 +120,7 @@ def test_random(romtool, here, chance):
     compare(romtool, "top", chance.choice([4, 4, 16, 4096]))
 
 
-@pytest.mark.parametrize("name", [b"a/\xff", b"a/link b"])
+@pytest.mark.parametrize("name", [b"a/\xff", b"a/link b"], ids=["name", "link"])
 def test_refused(romtool, here, name):
     """Names what is not UTF-8, a name by its directory and the text of a link by its name, and prints nothing."""
     os.makedirs("top/a")

@@ -94,17 +94,14 @@ def on_file(made, name):
 
 
 class Held:
-    """A run that is held at one of its calls of the system while the block is executed; then it goes on to its end.
+    """A run that is stopped after one of its calls of the system while the block is executed; then it goes on to its end.
 
-    With a delay it is held for so many seconds before the call, otherwise it is stopped after the call, until the block ends.
-    strace writes its log into a pipe: it says when the call is reached.
+    strace writes its log into a pipe: it says when the call is reached, however long that takes.
     """
 
-    def __init__(self, binary, words, name, number, delay=None):
-        self.begun, self.number, self.is_stopped = b" %s(" % name.encode(), number, delay is None
+    def __init__(self, binary, words, name, number):
         self.log, theirs = os.pipe()
-        what = "signal=STOP" if delay is None else "delay_enter=%d" % (delay * 1e6)
-        told = ["-f", "-o", "/proc/self/fd/%d" % theirs, *inject(name, what, number)]
+        told = ["-f", "-o", "/proc/self/fd/%d" % theirs, *inject(name, "signal=STOP", number)]
         streams = {"stdout": subprocess.PIPE, "stderr": subprocess.PIPE}
         self.run = subprocess.Popen(words_of(told, binary, words), pass_fds=[theirs], **streams)
         os.close(theirs)
@@ -117,16 +114,9 @@ class Held:
             if not more:
                 break
             seen += more
-            self.is_held = self.is_reached(seen)
+            if found := STOPPED.search(seen):
+                self.is_held, self.process = True, int(found.group(1))
         return self
-
-    def is_reached(self, seen):
-        """Returns whether the log says that the call is reached."""
-        if not self.is_stopped:
-            return seen.count(self.begun) >= self.number
-        found = STOPPED.search(seen)
-        self.process = int(found.group(1)) if found else None
-        return bool(found)
 
     def __exit__(self, *_):
         if self.process:
