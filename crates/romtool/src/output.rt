@@ -147,7 +147,7 @@ pub fn lines(rt: &HostRuntime) -> Lines<'_> {
 }
 
 /// Returns standard output for the lines `ok` and `fault`, which a terminal shows in colours.
-pub fn coloured(rt: &HostRuntime) -> Lines<'_> {
+pub fn coloured_lines(rt: &HostRuntime) -> Lines<'_> {
     single_lines(rt, has_colours(rt))
 }
 
