@@ -14,7 +14,6 @@ use crate::files::{Files, INPUT, Kept, kept_names, kept_states, say_not_taken};
 use crate::foreseen::{Warnings, foreseen};
 use crate::in_place::{Programs, Unknown, programs_of};
 use crate::origin::Origin;
-use crate::output::coloured_lines;
 use crate::reading::TextFile;
 use crate::reporter::Reporter;
 use crate::scan_all::ScannedText;
@@ -333,7 +332,7 @@ fn put_image(
         target: rule,
         fate: Fate::Open,
     };
-    let stdout = &mut coloured_lines(rt);
+    let stdout = &mut Plain::new(Held::new(rt.alloc(), io::writer(rt)));
     let Ended {
         opener: _,
         last: _,

@@ -7,7 +7,7 @@ ghost use Rattle.image_manifest.specs.Describable.{IsLawfulTree};
 ghost use Rattle.rom_commands.specs.Asked.{Fits};
 
 use crate::dump::DumpFile;
-use crate::output::{coloured_lines, errors, has_colours, lines, output, terminal};
+use crate::output::{errors, lines, output, terminal};
 use crate::patterns::{all_pieces, only};
 use crate::printed::in_file;
 use crate::reading::Unread;
@@ -44,7 +44,7 @@ fn usage(reporter: &Reporter<'_>, word: &str, why: &'static str) -> Status {
 
 /// Prints the fault that a file has by its first bytes.
 fn refuse_front(reporter: &Reporter<'_>, name: &str, front: &Front, asked: Asked) -> Status {
-    let (mut out, mut err) = (coloured_lines(reporter.rt), errors(reporter.rt));
+    let (mut out, mut err) = (lines(reporter.rt), errors(reporter.rt));
     let ending = refuse(front.fault, asked, &mut out, &mut err);
     reporter.finish_image(err, ending, name.as_bytes(), &front.bytes);
     ending.status()
@@ -153,18 +153,8 @@ pub fn show(
 ) -> Result<Status, Status>
     requires { Fits asked (length bytes.now) }
 {
-    let (alloc, mut err) = (reporter.rt.alloc(), errors(reporter.rt));
-    let ending = if asked == Asked::Report && has_colours(reporter.rt) {
-        print(
-            alloc,
-            bytes,
-            asked,
-            &mut coloured_lines(reporter.rt),
-            &mut err,
-        )
-    } else {
-        print(alloc, bytes, asked, &mut output(reporter)?, &mut err)
-    };
+    let (mut out, mut err) = (output(reporter)?, errors(reporter.rt));
+    let ending = print(reporter.rt.alloc(), bytes, asked, &mut out, &mut err);
     reporter.finish_image(err, ending, name, bytes);
     if ending == Ending::Warned && reporter.is_explained() {
         explain_warning(reporter, name, bytes, asked);

@@ -5,8 +5,7 @@ use crate::reporter::Reporter;
 use program_streams::{Again, Held};
 use rom_commands::{Ending, Status};
 use rom_fields::{ByteWrite, Plain};
-use std::env::{Env, FillError};
-use std::io::{self, BufWriter, IsTerminal, Printer, Stderr, Write};
+use std::io::{self, BufWriter, Printer, Stderr, Write};
 
 /// The hexadecimal digits.
 const HEX: &[u8; 16] = b"0123456789ABCDEF";
@@ -14,18 +13,8 @@ const HEX: &[u8; 16] = b"0123456789ABCDEF";
 /// Standard output, through a buffer.
 pub type Output<'a> = Plain<BufWriter<Again<Printer<'a, HostRuntime>>>>;
 
-/// The environment variable that asks for no colours, if it is not empty (no-color.org).
-const NO_COLOR: &str = "NO_COLOR";
-
-/// What a terminal takes for the colours of a line, and for their end.
-const GREEN: &[u8] = b"\x1b[32m";
-
-const RED: &[u8] = b"\x1b[31m";
-
-const END: &[u8] = b"\x1b[0m";
-
 /// Standard output, by one write for each line.
-pub type Lines<'a> = Plain<Held<Coloured<Printer<'a, HostRuntime>>>>;
+pub type Lines<'a> = Plain<Held<Printer<'a, HostRuntime>>>;
 
 /// Standard error, by one write for each line.
 pub type Errors = Plain<Held<Stderr>>;
@@ -78,77 +67,9 @@ pub fn terminal<'a>(reporter: &Reporter<'a>) -> Result<Terminal<'a>, Status> {
     }
 }
 
-/// A terminal that shows the line `ok` in green, and the line `fault` in red; or another stream.
-#[derive(Drop)]
-pub struct Coloured<W> {
-    inner: W,
-    has_colours: bool,
-    is_front: bool,
-    is_coloured: bool,
-}
-
-impl<W: Write> Coloured<W> {
-    /// Writes a byte of a line.
-    fn put(&mut self, byte: u8) -> io::Result<()> {
-        let colour = match byte {
-            b'o' if self.is_front => GREEN,
-            b'f' if self.is_front => RED,
-            b'\n' if self.is_coloured => END,
-            _ => &[],
-        };
-        self.inner.write_all(colour)?;
-        self.is_front = byte == b'\n';
-        self.is_coloured = !self.is_front && (self.is_coloured || !colour.is_empty());
-        self.inner.write_all(&[byte])
-    }
-}
-
-impl<W: Write> Write for Coloured<W> {
-    fn write(&mut self, b: &[u8]) -> io::Result<usize> {
-        if !self.has_colours {
-            return self.inner.write(b);
-        }
-        for byte in b {
-            self.put(*byte)?;
-        }
-        Ok(b.len())
-    }
-
-    fn flush(&mut self) -> io::Result<()> {
-        self.inner.flush()
-    }
-}
-
-/// Returns whether lines have colours: standard output is a terminal, and the environment does not
-/// ask for none.
-pub fn has_colours(rt: &HostRuntime) -> bool {
-    let is_off = match rt.var(NO_COLOR, &mut [0; 1]) {
-        Ok(len) => len > 0,
-        Err(FillError::TooLong) => true,
-        Err(FillError::NotPresent) => false,
-    };
-    !is_off && rt.stdout().is_terminal()
-}
-
-/// Standard output for single lines, with or without colours.
-fn single_lines(rt: &HostRuntime, has_colours: bool) -> Lines<'_> {
-    let lines = Coloured {
-        inner: io::writer(rt),
-        has_colours,
-        is_front: true,
-        is_coloured: false,
-    };
-    Plain::new(Held::new(rt.alloc(), lines))
-}
-
 /// Returns standard output for single lines.
 pub fn lines(rt: &HostRuntime) -> Lines<'_> {
-    single_lines(rt, false)
-}
-
-/// Returns standard output for the lines `ok` and `fault`, which a terminal shows in colours.
-pub fn coloured_lines(rt: &HostRuntime) -> Lines<'_> {
-    single_lines(rt, has_colours(rt))
+    Plain::new(Held::new(rt.alloc(), io::writer(rt)))
 }
 
 /// Returns standard error.
