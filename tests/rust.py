@@ -191,7 +191,7 @@ def faults(counts):
     """The names of the faults are those of the code."""
     with open(os.path.join(CRATE, "src", "error.rs"), encoding="utf-8") as file:
         names = re.findall(r'"(\w*)"', re.search(r"FAULTS: .*?= \[(.*?)\];", file.read(), re.S)[1])
-    wanted = [c.sentences.FAULTS.get(it, ("", ""))[0] for it in range(max(c.explain.FAULTS) + 1)]
+    wanted = [c.sentences.FAULTS.get(it, ("", ""))[0] for it in range(max(c.sentences.FAULTS) + 1)]
     counts.equal("names of faults", names, wanted)
 
 
