@@ -152,6 +152,11 @@ def table_of_directories(top):
     return lines_of(top, "table", ("/%06x d 755 0 0 - - - - -" % n for n in range(36_000)))
 
 
+def devices_and_directories(top):
+    """A line of a device table of 65,536 devices, and 30,000 lines of a directory in one that is missing."""
+    return lines_of(top, "table", ("/d c 600 0 0 1 0 0 1 65536", *("/%06x/a d 755 0 0 - - - - -" % n for n in range(30_000))))
+
+
 def deep_directories(top):
     """6,000 lines of a device table, each of 64 directories in each other."""
     return lines_of(top, "table", ("/%04d%s d 755 0 0 - - - - -" % (n, "/a" * 63) for n in range(6000)))
@@ -180,7 +185,9 @@ INPUTS = {
     "deep_lines": (deep_lines, ("build romfs manifest out", "build cramfs manifest out")),
     **{
         make.__name__: (make, ("scan --all --device-table table tree", "pack --quiet --device-table table cramfs tree out"))
-        for make in (many_devices, too_many_devices, many_times_all, table_of_directories, deep_directories)
+        for make in (
+            many_devices, too_many_devices, many_times_all, table_of_directories, devices_and_directories, deep_directories,
+        )  # fmt: skip
     },
     "listed_directories": (listed_directories, ("scan --all --devices devices tree",)),
     "linked_files": (linked_files, ("pack --quiet cramfs tree out", "pack --quiet --dedupe cramfs tree out")),

@@ -14,7 +14,7 @@
  *      it. Its fields may be read. (Numbers that romtool_check returned for exactly the same bytes may be put back.)
  *      A description that romtool_from_numbers accepts is one that romtool_numbers wrote for exactly these bytes.
  *   2. A call on the same image returned each node number that is passed to a call (`root` is one), or romtool_is_node is
- *      true of it.
+ *      true of it. A node and a position that are passed to romtool_reopen were those of one open file at one time.
  *   3. The bytes with which an image was checked stay unchanged and at their address as long as a struct of the image,
  *      or a pointer to the bytes, is used.
  * As for any C function, a pointer has to point to as many bytes as its length says (NULL with 0 is allowed), and what
@@ -178,7 +178,7 @@ struct romtool_file {
     struct romtool_image image;
     uint32_t error;
     uint32_t node;
-    uint64_t position;   /* of a file, the number of a byte; of a directory, a number for the library only */
+    uint64_t position;   /* of a file, the number of a byte; of a directory, a number for romtool_reopen only */
 };
 
 /* An entry of a directory: its name, which lies in the image and is NOT ended by a zero, and the number and the kind of
@@ -252,6 +252,28 @@ bool romtool_is_node(const struct romtool_image *image, uint32_t node) ROMTOOL_S
  * node's, and if no image is open. The time grows with the number of references of the image. */
 uint64_t romtool_links(const struct romtool_image *image, uint32_t node) ROMTOOL_SYMBOL("romtool_links");
 
+/* Writes the numbers of the nodes of all names to the front of `numbers`, in rising order, so that a number occurs as often
+ * as names lead to its node: the numbers of links of all nodes in one pass. Returns the number of names, that of the root
+ * included. If `room`, the number of elements, is less, `numbers` stays as it is. The result is 0 if no image is open. For
+ * n names, the time is n log n. */
+uint64_t romtool_nodes(const struct romtool_image *image, uint32_t *numbers, romtool_size room)
+    ROMTOOL_SYMBOL("romtool_nodes");
+
+/* Returns how often a number occurs among the `count` numbers that romtool_nodes wrote: what romtool_links returns, and 0
+ * for a number that is no node's. The time is log n. */
+static inline uint64_t romtool_links_among(const uint32_t *numbers, romtool_size count, uint32_t node) {
+    romtool_size begin = 0, end = 0;
+    for (romtool_size step = count; step; step = step / 2) { /* the numbers before the first that is at least, or above, `node` */
+        while (step <= count - begin && numbers[begin + step - 1] < node) {
+            begin += step;
+        }
+        while (step <= count - end && numbers[end + step - 1] <= node) {
+            end += step;
+        }
+    }
+    return end - begin;
+}
+
 /* Returns the node of the parent of the directory with this number (rule 2). The root is its own parent. Errors:
  * ROMTOOL_CLOSED, and _ENOTDIR if the node is not a directory. The time grows with the number of references. */
 ROMTOOL_STRUCT romtool_node romtool_parent(const struct romtool_image *image, uint32_t directory)
@@ -285,6 +307,12 @@ uint32_t romtool_open(struct romtool_file *file, const struct romtool_image *ima
  * at its start. Returns 0 or the error, which is also in `file`: ROMTOOL_CLOSED, and ROMTOOL_ENXIO. */
 uint32_t romtool_open_node(struct romtool_file *file, const struct romtool_image *image, uint32_t node)
     ROMTOOL_SYMBOL("romtool_open_node");
+
+/* Opens again what was open: `node` and `position` are those of the struct of an open file of this image (rule 2), also of
+ * a directory between two of its entries. So they are a cookie for telldir and seekdir at a constant cost. Returns 0 or
+ * the error, which is also in `file`: ROMTOOL_CLOSED. */
+uint32_t romtool_reopen(struct romtool_file *file, const struct romtool_image *image, uint32_t node, uint64_t position)
+    ROMTOOL_SYMBOL("romtool_reopen");
 
 /* Returns the kind and numbers of an open file or directory. Error: ROMTOOL_EBADF. */
 ROMTOOL_STRUCT romtool_stat romtool_fstat(const struct romtool_file *file) ROMTOOL_RETURNS("romtool_fstat");

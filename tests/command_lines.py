@@ -1,4 +1,4 @@
-"""The command lines of documents, and what docs.py does with them.
+"""The command lines of documents, and what test_docs.py does with them.
 
 A command line begins with `$ ` in a block: a fenced one that is marked `console`, or lines that are indented by four columns. It ends at
 the end of the line, or of a later one after backslashes. The lines behind it are what it prints; if no command of an indented block
@@ -77,24 +77,24 @@ SPOKEN = {
 # how commands begin that are not run here, by their documents, and why
 NOT_RUN = {
     "README.md": {
-        "tools/try": "tests/tools.py runs it",
+        "tools/try": "tests/test_tools.py runs it",
         "./test --quick": "it runs this script",
-        "sudo tar": "tests/release.py unpacks the archive",
-        "sudo apt install": "tests/release.py installs the packages",
+        "sudo tar": "tests/test_release.py unpacks the archive",
+        "sudo apt install": "tests/test_release.py installs the packages",
     },
     "CONTRIBUTING.md": {
-        "tools/unproved": "minutes: tests/unproved.py builds the program, tests/planted.py plants errors",
+        "tools/unproved": "minutes: tests/test_unproved.py builds the program, tests/planted.py plants errors",
         "(cd crates": "a proof",
         "git checkout": "it undoes the second command",
     },
-    "SECURITY.md": {"": "tests/release.py runs them on a release"},
-    "bindings/python/README.md": {"": "tests/python.py runs them"},
+    "SECURITY.md": {"": "tests/test_release.py runs them on a release"},
+    "bindings/python/README.md": {"": "tests/test_python.py runs them"},
     "docs/C.md": {
-        "tools/": "it proves the library, or is made of it: tests/targets.py",
-        "./romtool-mount": "tests/mount.py mounts images, if that can be done",
+        "tools/": "it proves the library, or is made of it: tests/test_targets.py",
+        "./romtool-mount": "tests/test_mount.py mounts images, if that can be done",
         "fusermount3": "there is no mount",
     },
-    "docs/LINUX.md": {"sudo ": "it needs root, and a kernel with these options: tests/linux.py and tests/flash.py start one"},
+    "docs/LINUX.md": {"sudo ": "it needs root, and a kernel with these options: tests/test_started.py and test_flash.py start one"},
     "docs/internals/PROVED.md": {"git clone": "it needs the address of the repository", "./test": "it runs this script"},
     "tests/edits/README.md": {"tools/edits": "proofs"},
 }
@@ -215,7 +215,7 @@ def options(name, subcommands, counts):
     """Counts whether each option that a document shows of a subcommand is one of it, except in the history of changes."""
     lines = [line for _, block in blocks(text_of(name)) for line in block]
     for code in [*code_of(text_of(name)), *lines] if name != "CHANGELOG.md" else []:
-        for sub, words in re.findall(r"(?:^|\bromtool (?:--explain )?)([a-z]+)((?: [^|;&>]*)?)", code):
+        for sub, words in re.findall(r"(?:\bromtool (?:--explain )?|^)([a-z]+)((?: [^|;&>]*)?)", code):
             known = subcommands.get(sub, None)
             used = re.findall(r"(?<![\w-])(-[a-zA-Z]|--[a-z][a-z-]*)\b", words.split(" -- ")[0])
             if known and used:

@@ -13,7 +13,7 @@ manifests (see manifests.py): `test_facts[seed 17]`. One with the parameter `fau
 refuses. The mark `images` says which images a test has, if not these. The tests are sorted by their images, so each is made once.
 One with the parameter `case` is run on each case, or on those that its mark `cases` chooses: `test_plain[serve/hello]`. One with the
 mark `seeds` is run with so many random seeds (`seed`), or with random numbers of each (`chance`): `test_options[seed 17]`. A test with the
-fixture `here` uses relative names in a new directory.
+fixture `here` uses relative names in a new directory. What takes long to make is made once in a session.
 """
 
 import functools
@@ -22,15 +22,17 @@ import random
 import tempfile
 from pathlib import Path
 
+import c
 import fuse
 import manifests
 import pytest
 import traced
-from harness import PROGRAM, missing
+from harness import PROGRAM, Counts, missing
 from romtool import answer, entries_of, pieces_of, run
-from rooms import IS_ROOT
 from run import files_of_cases, named_cases
+from users import IS_ROOT
 
+NO_PROGRAM = ("test_style.py",)
 MOST = 2**20  # bytes of an image of the cases
 SEEDS = 120  # how many random manifests
 BEHIND = (b"", b"", b"", b"behind", b"\0" * 5000, bytes(range(256)) * 16)  # what follows the image of a random manifest
@@ -38,6 +40,13 @@ BEHIND = (b"", b"", b"", b"behind", b"\0" * 5000, bytes(range(256)) * 16)  # wha
 
 def pytest_addoption(parser):
     parser.addoption("--binary", default=PROGRAM, help="the program, if not the one that `rt ci` leaves")
+    parser.addoption("--library", help="the archive of the library for C, if not the one that tools/library builds")
+    parser.addoption("--module", help="the module of which tools/rom32 makes libraries, if not that of the proved build")
+    parser.addoption("--shared", help="a shared library for the package for Python, if not one that is made of the archive")
+    parser.addoption("--page", help="the page, if not one that tools/page makes")
+    parser.addoption("--object", help="an object file of the program, for a trial of a release")
+    parser.addoption("--made", help="the directory of tools/unproved --aarch64, if the programs for aarch64 are not to be built")
+    parser.addoption("--write", action="store_true", help="put the files of tests/cases into their form")
     parser.addoption("--first", type=int, default=1, help="the first random seed")
     parser.addoption("--seeds", type=int, help="how many random seeds each test has")
 
@@ -50,9 +59,10 @@ def pytest_configure(config):
 
 
 def pytest_sessionstart(session):
-    """Ends the session if no program is there."""
-    if not os.access(session.config.option.binary, os.X_OK):
-        pytest.exit(f"no program {session.config.option.binary}: build it by `rt run` in crates/romtool", 1)
+    """Ends the session if no program is there, and not all tests are of files that need none."""
+    program = session.config.option.binary
+    if not os.access(program, os.X_OK) and not all(it.endswith(NO_PROGRAM) for it in session.config.args):
+        pytest.exit(f"no program {program}: build it by `rt run` in crates/romtool", 1)
 
 
 @functools.cache
@@ -174,6 +184,18 @@ def seeds_of(option, count):
     return range(option.first, option.first + (option.seeds if option.seeds and count else count))
 
 
+class Checks(Counts):
+    """What a test gives to functions that count by themselves: what fails ends it, and what is skipped skips it."""
+
+    def fails(self, words, wrong=()):
+        """Fails the test."""
+        pytest.fail("\n".join([words, *wrong]), pytrace=False)
+
+    def skips(self, words):
+        """Skips the test."""
+        pytest.skip(words)
+
+
 class Images:
     """The images of a session by their names. Each is made in a directory of its own, and the last ones are kept in memory."""
 
@@ -255,6 +277,29 @@ faulty = image
 def romtool(images):
     """The program: a call runs it."""
     return images.romtool
+
+
+@pytest.fixture(scope="session")
+def counts():
+    """For functions that count by themselves: a test that calls them fails if one of their checks does."""
+    return Checks()
+
+
+@pytest.fixture(scope="session")
+def archive(pytestconfig, counts):
+    """The archive of the library for C."""
+    given = pytestconfig.option.library
+    if lacks := missing("cc", *[] if given else ["rt"]):
+        pytest.skip("it needs " + lacks)
+    return c.library(given, counts)
+
+
+@pytest.fixture(scope="session")
+def forms(romtool, counts):
+    """A directory with an image in each format, named by it, and what they were built of: see c.build_all."""
+    with tempfile.TemporaryDirectory(prefix="romtool-") as top:
+        c.build_all(romtool.path, top, counts)
+        yield top
 
 
 @pytest.fixture

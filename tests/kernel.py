@@ -11,8 +11,9 @@ import shutil
 import subprocess
 import tempfile
 
+import pytest
 from files import bytes_in, put
-from harness import Counts, missing, parser, program_of
+from harness import missing
 
 # the programs that this needs, and the packages that have them
 TOOLS = {"qemu-system-x86_64": "qemu-system-x86", "cc": "gcc", "make": "make", "cpio": "cpio", "tar": "tar", "xz": "xz-utils"}
@@ -76,10 +77,9 @@ def lacking(tools):
 
 
 def done(words, **more):
-    """Runs a command, and returns what it printed. If it fails, the test ends with that."""
+    """Runs a command, and returns what it printed. If it fails, so does the test."""
     ran = subprocess.run(words, stdin=subprocess.DEVNULL, stdout=subprocess.PIPE, stderr=subprocess.STDOUT, **more)
-    if ran.returncode:
-        raise RuntimeError(f"{words[0]}: {ran.stdout.decode(errors='replace')[-2000:]}")
+    assert ran.returncode == 0, f"{words[0]}: {ran.stdout.decode(errors='replace')[-2000:]}"
     return ran.stdout
 
 
@@ -121,8 +121,8 @@ def put_archive(top):
     put(f"{top}/start.cpio", subprocess.run(words, input=listed.encode(), stdout=subprocess.PIPE, cwd=f"{top}/start", check=True).stdout)
 
 
-def console(top, seconds, counts, append="", devices=()):
-    """Starts the kernel, and returns the lines that its console shows, or none if it does not run to its end, which is counted."""
+def console(top, seconds=300, append="", devices=()):
+    """Starts the kernel, which has to run to its end, and returns the lines that its console shows."""
     put_archive(top)
     words = ["qemu-system-x86_64", "-accel", "tcg", "-cpu", "qemu64", "-m", "768M", "-nographic", "-nic", "none", "-no-reboot", *devices]
     words += ["-kernel", f"/boot/vmlinuz-{version()}", "-initrd", f"{top}/start.cpio", "-append"]
@@ -131,22 +131,13 @@ def console(top, seconds, counts, append="", devices=()):
         shown = subprocess.run(words, stdin=subprocess.DEVNULL, stdout=subprocess.PIPE, stderr=subprocess.STDOUT, timeout=seconds).stdout
     except subprocess.TimeoutExpired as error:
         shown = (error.stdout or b"") + b"\nthe emulator does not end within %d seconds" % seconds
-    text = shown.decode(errors="replace").replace("\r", "")
-    return text.split("\n") if counts.equal("Linux runs to its end", END in text.split("\n"), True, text) else []
+    lines = shown.decode(errors="replace").replace("\r", "").split("\n")
+    if END not in lines:
+        pytest.fail("\n".join(["Linux does not run to its end", *lines[-40:]]), pytrace=False)
+    return lines
 
 
-def main(about, tries, seconds=300, tools=()):
-    """Has a test read its command line, try what Linux does in a directory, and return its exit status."""
-    reader = parser(about)
-    reader.add_argument("--timeout", type=int, default=seconds, help="how many seconds the emulator may run")
-    arguments, counts = reader.parse_args(), Counts()
-    binary = program_of(arguments)
+def need(tools=()):
+    """Skips a test if a package that it needs is not installed. The tools are those of the test, as `TOOLS`."""
     if lacks := lacking(dict(tools)):
-        counts.skips(f"the package {lacks} is not installed")
-        return counts.close()
-    with tempfile.TemporaryDirectory(prefix="romtool-") as top:
-        try:
-            tries(binary, top, counts, arguments.timeout)
-        except RuntimeError as error:
-            counts.fails("Linux in the emulator", str(error).splitlines()[-40:])
-    return counts.close()
+        pytest.skip(f"the package {lacks} is not installed")

@@ -9,7 +9,7 @@ import struct
 
 from files import put
 from romtool import KINDS, ROMFS_MODES, WORDS, escaped
-from rooms import IS_ROOT
+from users import IS_ROOT
 
 OPTIONS = argparse.ArgumentParser(allow_abbrev=False)  # of a scan: those that decide what it prints
 OPTIONS.add_argument("--all", action="store_true")

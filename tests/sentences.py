@@ -1,7 +1,7 @@
-"""The sentences of the program, written out: what explain.py and the cases expect, and what the code is compared with.
+"""The sentences of the program, written out: what test_explain.py and the cases expect, and what the code is compared with.
 
 Those of the faults of an image are in docs/FAULTS.md, which is written by a person, too. Nothing here is taken from the code: if a sentence
-of `crates/sentences` is changed or new, change it here (or in FAULTS.md); until then `explain.py` fails.
+of `crates/sentences` is changed or new, change it here (or in FAULTS.md); until then `test_explain.py` fails.
 """
 
 import re
@@ -40,7 +40,8 @@ MISREADS = {
     0: ("Empty", "no line makes a file, so the image has only an empty root; did the scan fail?"),
     1: (
         "LastBlock",
-        "Linux reads the last 4,096 bytes of a file as zeros if its length is a multiple of 4,096; append a byte to the source",
+        "Linux reads the last 4,096 bytes of a file as zeros if its length is a multiple of 4,096; "
+        "append a byte to the source (truncate -s +1 FILE)",
     ),
     2: (
         "SharedTable",
@@ -119,6 +120,7 @@ REASONS = {
     "FOLDER_CHANGED": "it changed while it was scanned",
     "OWN_INPUT": "it is the manifest or a source, which a build never replaces",
     "OWN_OUTPUT": "it is standard output, and the line ok LENGTH would get into the image",
+    "OUT_IS_LAST": "it is a directory; OUT, the file of the image, is the last word",
     "OWN_RULE": "it is also OUT, the file of the image",
     "OWN_PART": "it has the name of a part of OUT, or OUT that of a part of it",
     "RULE_UNFIT": "make cannot read a name in it; PROTOCOL.md lists such names",
@@ -169,6 +171,7 @@ REASONS = {
     "MANIFEST_NOT_TAKEN": "not all of the manifest could be written to it",
     "LONG_NAME": "the name of a volume has at most 255 bytes",
     "DEVICE_WORD": "a file of devices has only dir, slink, nod, pipe, sock and mode",
+    "MODE_LINE": "a mode line is: mode PATH MODE UID GID",
     "DEVICE_EXISTS": "an earlier line already has this path, or a directory and another kind of file have it",
     "DEVICE_NO_PARENT": "no DIR and no dir line has the parent directory of the path",
     "NO_SLASH": "a path in an image begins with a slash",

@@ -12,8 +12,8 @@ import signal
 import socket
 import threading
 
+import client
 import pytest
-from client import wrong_image
 from edges import OK, fault, lay, parts
 from files import bytes_in, put
 from romtool import FORMATS, entries_of, escaped, without_number
@@ -72,7 +72,7 @@ def test_built(romtool, tree, format):
     assert told == [b"", 0] and checked.startswith(b"ok %s " % format.encode())
     listed = romtool("list", "image")[0]
     assert sorted(map(without_number, listed.splitlines())) == LISTED
-    assert list(wrong_image(romtool.path, "image", listed)) == []
+    client.compare(romtool.path, "image", listed)
     for path in (it.path for it in entries_of(listed) if it.kind == "f"):
         told = romtool("serve", "image", input=f"open {path}\n".encode() + b"lend 0 4294967295\n" * 8)[0].splitlines()[1:]
         lent = b"".join(bytes.fromhex(line.split(b" ")[3].decode()) for line in told if not line.endswith(b"-"))

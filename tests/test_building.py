@@ -178,6 +178,24 @@ def test_random_manifests_fit(romtool, here):
     assert built >= 30
 
 
+def named_blocks(told, text):
+    """Returns the paths of files that end with a whole block, by the words of a build of the file `m` with this text."""
+    paths = re.findall(r"LastBlock \(1\): .*; files: \d+, first (\S+)", told)
+    return sorted(paths + [text.splitlines()[int(line) - 1].split()[1] for line in re.findall(r"m:(\d+): LastBlock, too\n", told)])
+
+
+def test_whole_blocks(romtool, here):
+    """Names each file that ends with a whole block, up to 21 of them, and then says how many more there are."""
+    text = "".join(f"file /{n:02} 0644 0 0 4 {'byte' if n == 5 else 'block'}\n" for n in range(24))
+    for count, more in ((22, ""), (24, "romtool: m: 2 more files with LastBlock\n")):
+        lay("".join(text.splitlines(True)[:count]), byte=b"x", block=bytes(8192))
+        for words in (), ("--strict",):
+            told = romtool("--explain", "build", *words, "cramfs", "m", "out")[1].decode()
+            assert named_blocks(told, text) == [f"/{n:02}" for n in range(22) if n != 5]
+            assert told.endswith("m:22: LastBlock, too\n" + more)
+    assert "LastBlock" not in romtool("--explain", "build", "romfs", "m", "out")[1].decode()
+
+
 @pytest.mark.seeds(150)
 def test_foreseen(romtool, here, seed):
     """Warns in a random manifest of what `romtool linux` says of its images, by number and count, and refuses it by `--strict`."""
@@ -190,6 +208,9 @@ def test_foreseen(romtool, here, seed):
         counts = collections.Counter(int(line.split()[1]) for line in romtool("linux", "out")[0].splitlines())
         found = re.findall(r"warning: (\w+) \((\d+)\): .*; files: (\d+), first ", told.decode())
         assert sorted(found) == sorted((NAMES[number], str(number), str(count)) for number, count in counts.items())
+        wanted = sorted(re.findall(r"linux 1 LastBlock (\S+)", romtool("linux", "out")[0].decode()))
+        # words shorten a long path
+        assert [it[:100] for it in named_blocks(told.decode(), text)] == [it[:100] for it in wanted]
         is_refused = romtool("build", "--strict", format, "m", f"strict-{format}")[2] == 1
         assert (is_refused, os.path.exists(f"strict-{format}")) == (bool(counts), not counts)
 

@@ -1,7 +1,7 @@
 """Runs the cases (see run.py): as they are, with `--explain`, and with cramfs images in the other byte order.
 
 Without its explanations a run prints exactly the bytes of its case, and writes exactly these files. With them the output, the status
-and the protocol's lines are the same, and each line of a refusal is followed by its sentence (see explain.py).
+and the protocol's lines are the same, and each line of a refusal is followed by its sentence (see explained.py).
 """
 
 import os
@@ -9,7 +9,7 @@ import re
 
 import pytest
 from big_endian import is_turned, turned_case
-from explain import explained, wrong_in
+from explained import explained, wrong_in
 from run import bytes_of, lay_out, named_cases, started, wrong_run
 from sentences import BAD_LINES, CALLS, FAULTS, MANIFESTS, MISFITS
 

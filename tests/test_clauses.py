@@ -11,7 +11,6 @@ import pytest
 from files import bytes_in, put, text_of
 from harness import SECONDS, TOP
 
-ROWS = "docs/internals/PROVED.md"
 # what is changed -> the file, the old text, and the new one
 CHANGES = {
     "a definition at the margin": ("path_walk/specs/Components", "is_empty [] = true", "is_empty [] = false"),
@@ -62,10 +61,11 @@ def copy(tmp_path_factory):
     """A copy of what the tool reads."""
     top = tmp_path_factory.mktemp("copy")
     left_out = shutil.ignore_patterns("proofs", "must-fail", "out", "target", "__pycache__")
-    for name in ("crates", "tools", "docs/internals"):
+    for name in ("crates", "tools"):
         shutil.copytree(os.path.join(TOP, name), top / name, ignore=left_out)
     (top / "tests").mkdir()
-    shutil.copy(os.path.join(TOP, "README.md"), top)
+    for name in ("README.md", "crates.txt"):
+        shutil.copy(os.path.join(TOP, name), top)
     return top
 
 
@@ -97,12 +97,25 @@ def test_moved(copy, printed):
 
 
 @pytest.mark.parametrize(
-    "old, new, lost", (("`laws::one_tree`", "`laws::no_tree`", "`no_tree`"), ("`Canvas::{new", "`Canvas::{old", "`Canvas::old`"))
+    "name, old, new, lost",
+    (
+        ("image_check", "`laws::one_tree`", "`laws::no_tree`", "`no_tree`"),
+        ("rom_fields", "`Canvas::{new", "`Canvas::{old", "`Canvas::old`"),
+        ("crc", "`crc32`, `crc32_more`: ", "", "a promise names nothing"),
+        ("crc", "`crc32`, `crc32_more`: ", "crc32, crc32_more: ", "a promise names nothing"),
+    ),
 )
-def test_nothing(copy, old, new, lost):
-    """A name of a row that has no clause and no ghost is an error."""
-    status, out, said = changed(copy, ROWS, old, new)
+def test_nothing(copy, name, old, new, lost):
+    """A promise that names nothing, or something that has no clause and no ghost, is an error."""
+    status, out, said = changed(copy, f"crates/{name}/src/lib.rt", old, new)
     assert (status, out) == (1, "") and lost in said
+
+
+def test_promise_taken_away(copy, printed):
+    """Without a promise, its clauses are not in the list."""
+    status, out, said = changed(copy, "crates/crc/src/lib.rt", "Proved:", "Said:")
+    assert (status, said) == (0, "")
+    assert "crc::checksum::crc32 " in printed and "crc::checksum::crc32 " not in out
 
 
 def test_write(copy, printed):

@@ -20,7 +20,7 @@ import traced
 from edges import HELLO, OK, changed_after, failed, fault, held_at, hello, lay, lay_old, part, parts, wanted
 from files import bytes_in, innermost, put
 from romtool import FORMATS, answer, run
-from rooms import NOBODY, become_nobody
+from users import NOBODY, become_nobody
 
 FAULTS = ("error=EIO", "error=ENOSPC", "signal=KILL")
 FAILED = ("openat", "read", "pread64", "write", "fsync", "rename", "fchmod", "fchown", "statx", "fcntl", "close")

@@ -22,7 +22,7 @@ from edges import HELLO, OK, changed_after, failed, fault, held_at, hello, lay, 
 from files import bytes_in, put, wait_for_clock
 from harness import SECONDS
 from romtool import FORMATS
-from rooms import NOBODY, become_nobody
+from users import NOBODY, become_nobody
 
 FAULTS = {"EIO": "Input/output error", "ENOSPC": "No space left on device", "EDQUOT": "Disk quota exceeded"}
 GROUP = 4321

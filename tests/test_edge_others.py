@@ -18,9 +18,9 @@ import pytest
 from edges import changed_after, failed, fault, hello, leave, part, said
 from files import bytes_in, put, wait_for_clock, wait_until, write_below
 from harness import SECONDS, end_by_signals
-from rooms import NOBODY, become_nobody
 from romtool import prints, refuses
 from traced import calls
+from users import NOBODY, become_nobody
 
 LINK = b"another user made a link to it, or may replace one: name the file itself"
 

@@ -23,8 +23,8 @@ import traced
 from files import bytes_in, innermost, put, remove, text_of, wait_for_clock, write_below
 from harness import SECONDS
 from romtool import answer, entries, escaped, prints, refuses, run
-from rooms import IS_ROOT, become_nobody
 from scans import scanned
+from users import IS_ROOT, become_nobody
 
 SCANS = (["scan"], ["scan", "--all"])
 FITTED = ["scan", "--all", "--for", "cramfs", "--align", "16"]

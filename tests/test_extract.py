@@ -29,7 +29,7 @@ from files import bytes_in, put, remove
 from formats import volume_of
 from harness import HERE, SECONDS, end_by_signals
 from romtool import KINDS, WORDS, answer, entries_of, escaped, raw
-from rooms import IS_ROOT, NOBODY, become_nobody
+from users import IS_ROOT, NOBODY, become_nobody
 
 LENDING = 0o6000
 FAULTS = ("error=EIO", "error=ENOSPC", "error=ENOMEM", "error=EACCES", "signal=KILL")

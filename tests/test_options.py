@@ -10,7 +10,7 @@ import sys
 import xml.etree.ElementTree as tree
 
 import pytest
-from explain import wrong_in
+from explained import wrong_in
 from files import put
 from harness import HERE, SECONDS, TOP
 from options import CASES, without

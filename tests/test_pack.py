@@ -95,7 +95,9 @@ def test_table(romtool, app):
     """Says in a table what is in the image."""
     answer = romtool.line("pack --all-root --align 4096 --max-size 64K cramfs app out")
     length = len(bytes_in("out"))
-    table = [(length, "the image"), (5006, "contents of files"), (length - 5006, "names, tables and padding")]
+    # the superblock; inodes with names of 4 and 8 bytes; the link's text; pointers of 2 blocks, 1 and 1
+    tables = 76 + 3 * (12 + 4) + (12 + 8) + len("etc") + 4 * (2 + 1 + 1)
+    table = [(length, "the image"), (5006, "contents of files"), (tables, "names and tables"), (length - 5006 - tables, "padding")]
     table += [(65536 - length, "left of 65536")]
     lines = ["romtool: out: cramfs, 2 files, 2 directories, 1 symbolic link", *(f"{n:>14}  {what}" for n, what in table)]
     lines += ["the largest files:", f"{5000:>14}  /large", f"{6:>14}  /etc/motd", ""]
@@ -189,6 +191,29 @@ def test_refused(romtool, here, words, told):
     assert romtool.line(f"pack --quiet {words}") == refuses(told)
     assert (bytes_in("there"), os.listdir("small")) == (b"old", ["a"])
     assert sorted(os.listdir(".")) == ["small", "there"]
+
+
+@pytest.mark.parametrize(("words", "name", "is_told"), [
+    ("cramfs out tree", "out", True), ("cramfs none tree", "none", True), ("cramfs tree none tree", "none", True),
+    ("cramfs tree none out", "none", False), ("cramfs tree tree", "tree", False),
+])  # fmt: skip
+def test_order_of_words(romtool, here, words, name, is_told):
+    """Says that OUT is the last word, if that is a directory and another word is none."""
+    write_below(".", {"tree/a": "a", "out": "old"})
+    out, err, status = romtool.line(f"pack {words}")
+    # an owner that does not fit into cramfs is told before
+    assert (out, f"file {name}" in err.decode().splitlines(), status) == (b"", True, 3)
+    assert (b"romtool: tree: it is a directory; OUT, the file of the image, is the last word\n" in err) == is_told
+    assert (bytes_in("out"), os.listdir("tree")) == (b"old", ["a"])
+
+
+def test_whole_blocks(romtool, here):
+    """Names each file that ends with a whole block by its path."""
+    write_below("top", {"a": "", "b": "x"})
+    for name in "cde":
+        put(f"top/{name}", bytes(4096))
+    err = romtool.line("pack cramfs top out")[1].decode()
+    assert "romtool: /c: warning: LastBlock (1): " in err and "romtool: /d: LastBlock, too\nromtool: /e: LastBlock, too\n" in err
 
 
 def test_excluded_out(romtool, here):

@@ -18,7 +18,7 @@ import pytest
 from files import bytes_in, put, wait_until
 from harness import SECONDS, TOP, end_by_signals
 from romtool import FORMATS, entries, escaped, raw
-from rooms import IS_ROOT, become_nobody
+from users import IS_ROOT, become_nobody
 
 pytestmark = pytest.mark.needs("fakeroot")
 SCRIPT = TOP + "/recipes/romtool-tar.sh"

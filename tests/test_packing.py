@@ -7,6 +7,7 @@ devices, what `--strict` refuses, a full disk, a directory that cannot be writte
 import contextlib
 import io
 import os
+import select
 import stat
 import subprocess
 import tarfile
@@ -16,8 +17,8 @@ import pytest
 from files import bytes_in, put, text_of, write_below
 from harness import SECONDS
 from romtool import FORMATS, escaped, prints, refuses
-from rooms import IS_ROOT, NOBODY
 from scans import Told, elf, make_random, scanned
+from users import IS_ROOT, NOBODY
 
 OWNERS = [["--all-root"], ["--owner", "1:2"], ["--owner", "70000:300"], ["--owner", "4294967295:4294967295"]]
 DEVICES = """# a table
@@ -72,6 +73,15 @@ BAD_ROWS = {
     "5 Exists": ["/init d 755 0 0"],
     "7 BadTarget": ["/none f 600 0 0", "/none r 600 0 0", "/etc f 600 0 0"],
 }  # fmt: skip
+# whole tables, and the line that is refused: what each line is by itself is looked at first, and devices are counted before they are made
+BAD_TABLES = {
+    "/none f 600 0 0\n/x q 600 0 0\n": "2 1 BadWord",
+    "/x c 600 0 0 1 1\n/x/y d 755 0 0\n": "2 4 NoParent",
+    "/x/y d 755 0 0\n/x c 600 0 0 1 1\n": "2 5 Exists",
+    "/x/y d 755 0 0\n/x/z d 755 0 0\n/x/y/z p 600 0 0\n/x/y/z d 600 0 0\n": "4 5 Exists",
+    "/x c 600 0 0 1 1 0 1 65536\n" * 16 + "/y p 600 0 0\n": "17 2 BadNumber",
+    "/x c 600 0 0 1 1 0 1 65536\n" * 17 + "/y q 600 0 0\n": "17 2 BadNumber",
+}
 LARGE, OTHER = "ab" * 40000, "ab" * 39999 + "ac"
 TREE = {
     "small/a": "a", "there": "old", "table/dev/null": "", "devices": DEVICES, "twice": "pipe /x 0600 0 0\n\npipe /x 0600 0 0\n",
@@ -79,7 +89,7 @@ TREE = {
     "mode-lines": "mode /b 4750 1 2\nmode / 0700 3 4\ndir /bin 0711 5 6\npipe /p 0600 0 0\nmode /p 0640 7 8\n",
     "second-mode": "mode /bin/a 4711 7 8\n",
     "both-modes": "mode /bin/a 0700 1 1\nmode /b 0710 2 2\nmode /bin/a 0711 3 3\n",
-    "second-row": "/bin/a f 4711 7 8\n", "lower/x/y": "", "upper/x": "",
+    "shared-rows": "/b f 711 7 8\n/bin r -1 9 9\n", "second-row": "/bin/a f 4711 7 8\n", "lower/x/y": "", "upper/x": "",
     "bad-mode": "mode /b 0750 1 2\nmode /none 0750 1 2\n", "folder-list": "dir /bin 0711 5 6\ndir /new 0755 0 0\n",
     "root/etc/passwd": "", "root/etc/shadow": "", "root/init": "", "makedevs": MAKEDEVS,
     "rows/srv/a": "", "rows/srv2/b": "", "row-lines": "dir /srv 0700 1 1\nmode /srv 0711 2 2\nmode /srv/one 0640 6 6\n",
@@ -120,6 +130,10 @@ PRINTED = {
     ],
     "--all-root --device-table second-row modes": [
         "dir / 0755 0 0", "file /b 4711 7 8 4 modes/b", "dir /bin 0755 0 0", "hard /bin/a /b",
+    ],
+    # a mode that stays is the one that was set before by another name
+    "--all-root --device-table shared-rows modes": [
+        "dir / 0755 0 0", "file /b 0711 9 9 4 modes/b", "dir /bin 0755 9 9", "hard /bin/a /b",
     ],
     # the numbers of several devices rise by the increment, and those in their names by one
     "--owner 9:9 --device-table makedevs root": [
@@ -234,6 +248,13 @@ def test_bad_rows(romtool, tree, row, wrong):
     """Names the first bad row of a table of makedevs, as Buildroot's manual describes it."""
     put("bad", f"# a comment\n{row}\n".encode())
     assert romtool.line("scan --all --owner 9:9 --device-table bad root") == refuses(f"manifest 2 {wrong}")
+
+
+@pytest.mark.parametrize("table", BAD_TABLES, ids=lambda it: it[:40].replace("\n", " "))
+def test_bad_tables(romtool, tree, table):
+    """Names the line of a table that is refused, if it has several lines."""
+    put("bad", table.encode())
+    assert romtool.line("scan --all --owner 9:9 --device-table bad root") == refuses("manifest " + BAD_TABLES[table])
 
 
 def random_pattern(chance, paths):
@@ -424,8 +445,12 @@ def test_changed(romtool, tree, name):
     """Reports a file that changes after it was read, while the image is written into a pipe."""
     os.mkfifo("pipe")
     words = [romtool.path, *f"pack --quiet {READ} cramfs equal pipe".split()]
+    # opened before: a program that ends early would never open it
+    reading = os.open("pipe", os.O_RDONLY | os.O_NONBLOCK)
     with subprocess.Popen(words, stdout=subprocess.PIPE, stderr=subprocess.PIPE) as run:
-        with open("pipe", "rb") as pipe:
+        with open(reading, "rb") as pipe:
+            assert select.select([pipe], [], [], SECONDS)[0]
+            os.set_blocking(reading, True)
             pipe.read(1)
             with open(name, "ab") as file:
                 file.write(b"#")

@@ -11,8 +11,8 @@ import stat
 import pytest
 from files import bytes_in, put
 from romtool import FORMATS, entries_of, escaped, refuses, without_number
-from rooms import IS_ROOT
 from scans import Told, elf, make_random, scanned
+from users import IS_ROOT
 
 ODD = ["caf\u00e9", "\U0001f600", "line\nfeed", "tab\t", "%41", "#", "-", "--all", "z" * 252, ".hidden"]
 LINKS = {"relative": "bin/sh", "dangling": "no/where", "odd": "a b%\n\u00e9", "long": "l" * 4000, "lib/up": ".."}

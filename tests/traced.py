@@ -11,7 +11,6 @@ import threading
 import time
 
 from harness import SECONDS
-from rooms import needs
 
 CALL = re.compile(r"(\w+)\((.*)")
 STOPPED = re.compile(rb"(\d+) +--- stopped by SIGSTOP ---")
@@ -32,11 +31,6 @@ def is_there():
     words = ["strace", "-o", os.devnull, "-e", "inject=close:error=EIO:when=1", "true"]
     done = subprocess.run(words, stdout=subprocess.PIPE, stderr=subprocess.PIPE, timeout=SECONDS)
     return done.returncode in (0, 1) and not done.stderr
-
-
-def needs_strace(test):
-    """Skips a test if calls cannot be traced."""
-    return needs(test, is_there)
 
 
 def words_of(told, binary, words):

@@ -1,6 +1,6 @@
 """The library for C for boards: the targets, and the files of romtool-embedded-X.Y.Z.tar.gz, all made of one module.
 
-The archives are derived from the proved library and tested (tests/targets.py, tests/boards.py); they are NOT proved. Those of
+The archives are derived from the proved library and tested (tests/test_targets.py, tests/test_boards.py); they are NOT proved. Those of
 32 bits are made by the pass of tools/to32.py, and those of 64 bits by tools/to64.py.
 """
 

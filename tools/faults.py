@@ -1,7 +1,7 @@
 """The table of the faults of an image, and the parts of other files that are made of it.
 
 Numbers, meanings and names are those of crates/rom_faults/src/fault.rt, and sentences those of crates/sentences/src/faults.rt.
-`tools/tables faults` writes the parts. tests/docs.py compares them, and the files that are written by hand, with the table.
+`tools/tables faults` writes the parts. tests/test_docs.py compares them, and the files that are written by hand, with the table.
 """
 
 import os

@@ -1,6 +1,6 @@
-"""What the tools use of the toolchain: its `rt` as a module, and the kit that they were made for.
+"""What the tools use of the toolchain: its `rt` as a module, and the kits that they were made for.
 
-The tools call parts of `rt` by the names of its functions, so they work with one kit only. With another kit they report
+The tools call parts of `rt` by the names of its functions, so they work with these kits only. With another kit they report
 this, and run the toolchain's own `rt` instead.
 """
 
@@ -11,6 +11,8 @@ import shutil
 import sys
 
 MADE_FOR = "rattle-kit-13f logic dac8208d650f15bf"
+# kits with the same logic, whose `rt` has the same functions
+ALSO = ("rattle-kit-13b logic dac8208d650f15bf",)
 HOW_TO_GET = f"unpack {MADE_FOR.split()[0]} of the Rattle toolchain (18 GB; no Debian package has it), and put a link to its rt on the PATH"
 TOP = os.path.dirname(os.path.dirname(os.path.realpath(__file__)))
 
@@ -34,13 +36,14 @@ def loaded():
 
 
 def is_known(rt, instead):
-    """Returns whether the toolchain is the kit that the tools were made for. If not, it reports what is done instead."""
+    """Returns whether the toolchain is a kit that the tools were made for. If not, it reports what is done instead."""
     with open(f"{rt.KIT}/KIT-ID", encoding="utf-8") as it:
         here = it.read().strip()
-    if here != MADE_FOR:
+    is_one = here in (MADE_FOR, *ALSO)
+    if not is_one:
         tool = f"tools/{os.path.basename(sys.argv[0])}"
         print(f"{tool}: made for {MADE_FOR}, and this is {here}: {instead}", file=sys.stderr, flush=True)
-    return here == MADE_FOR
+    return is_one
 
 
 def hand_over(words):

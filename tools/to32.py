@@ -32,14 +32,14 @@ def exports(*names):
 EXPORTS = (
     *exports(
         "check", "numbers", "from_numbers", "lookup", "lookup_within", "lookup_at", "stat", "stat_node", "readlink",
-        "readlink_node", "is_node", "links", "parent", "volume", "open", "open_node", "fstat", "map", "lend", "read", "read_at",
-        "seek", "readdir", "telldir", "seekdir",
+        "readlink_node", "is_node", "links", "nodes", "parent", "volume", "open", "open_node", "reopen", "fstat", "map", "lend",
+        "read", "read_at", "seek", "readdir", "telldir", "seekdir",
     ),
     "library_version",
 )  # fmt: skip
 # those that answer by a struct of more than 16 bytes, by a number of 64 bits, and not at all
 THROUGH = exports("stat", "stat_node", "fstat")
-COUNTS = exports("links", "telldir")
+COUNTS = exports("links", "nodes", "telldir")
 SILENT = exports("numbers")
 HEAP = ("rattle_alloc", "rattle_realloc", "rattle_dealloc")
 # what the module may call from outside: the heap, these functions of C, and these of LLVM

@@ -1,5 +1,5 @@
 // What Linux misreads in a valid image: the rules of `romtool linux` (docs/PROTOCOL.md, What Linux misreads). They are not
-// proved here: tests/page.py compares them with `romtool linux`.
+// proved here: tests/test_page.py compares them with `romtool linux`.
 
 // The two fields of a word of an inode of cramfs, of which the first has so many bits.
 function fieldsAt(view, at, bits, isBig) {

@@ -1,5 +1,5 @@
 // Which programs of an image Linux executes in place: the rules of `romtool xip` (docs/PROTOCOL.md, Programs in place).
-// They are not proved here: tests/page.py compares them with `romtool xip` and with what readelf reads. Numbers of an
+// They are not proved here: tests/test_page.py compares them with `romtool xip` and with what readelf reads. Numbers of an
 // ELF file have up to 64 bits, so they are BigInts.
 
 const PAGE = 4096n;

@@ -9,7 +9,7 @@
  *     fs_register(FS_TYPE_EXTERNAL_BASE, &romtool_fs);
  *     int error = fs_mount(&mount);
  *
- * On a Cortex-M3 a call of the library with a path takes 2,380 bytes of stack, and the check in fs_mount 6,048 (C.md says how that
+ * On a Cortex-M3 a call of the library with a path takes 2,380 bytes of stack, and the check in fs_mount 6,060 (C.md says how that
  * was measured). Beside romtool_fs.c compile area.c, and link an archive of the library. */
 #ifndef ROMTOOL_FS_H
 #define ROMTOOL_FS_H

@@ -46,7 +46,7 @@ static int is_new(uint32_t node) {
 /* A file: reads at each position answer as reads behind a seek, and leave the position. */
 static void reads(const struct romtool_image *image, uint32_t node, uint32_t size) {
     static const uint64_t offs[] = {0, 1, 4095, 4096, 4097, 5999, 6000, 6001, UINT64_MAX};
-    struct romtool_file file = ROMTOOL_INIT, other = ROMTOOL_INIT;
+    struct romtool_file file = ROMTOOL_INIT, other = ROMTOOL_INIT, again = ROMTOOL_INIT;
     uint8_t one[300], two[300];
     romtool_size count = 0, wanted = 0;
     wants(romtool_open_node(&file, image, node) == 0 && romtool_seek(&file, 3) == 0, "a file");
@@ -58,6 +58,8 @@ static void reads(const struct romtool_image *image, uint32_t node, uint32_t siz
         wants(romtool_seek(&other, offs[i]) == 0 && romtool_read(&other, two, sizeof two, &wanted) == 0, "read");
         wants(count == wanted && memcmp(one, two, sizeof one) == 0, "read_at as read");
         wants(file.position == 3, "the position after read_at");
+        wants(romtool_seek(&other, offs[i]) == 0 && romtool_reopen(&again, image, node, offs[i]) == 0, "a file that was open");
+        wants(memcmp(&again, &other, sizeof again) == 0, "a file at the position where it was open");
     }
     wants(romtool_read_at(&file, 0, NULL, 0, &count) == 0 && count == 0, "read_at of nothing");
     const struct romtool_place none = romtool_map(&file, 0, 0);
@@ -71,12 +73,21 @@ static void reads(const struct romtool_image *image, uint32_t node, uint32_t siz
 static void positions(const struct romtool_image *image, uint32_t node, const struct romtool_entry *held, size_t count) {
     struct romtool_file dir = ROMTOOL_INIT;
     struct romtool_entry entry;
+    uint64_t cookies[ENTRIES + 1];
     romtool_size got = 9;
     uint8_t byte = 7;
     wants(romtool_open_node(&dir, image, node) == 0, "a directory");
     for (size_t i = 0; i <= count; i++) {
+        cookies[i] = dir.position;
         wants(romtool_telldir(&dir) == i, "the entries that were read");
         wants(romtool_readdir(&dir, &entry) == 0 && entry.some == (i < count), "an entry more");
+    }
+    for (size_t i = count + 1; i-- > 0;) {
+        struct romtool_file again = ROMTOOL_INIT;
+        wants(romtool_reopen(&again, image, node, cookies[i]) == 0 && romtool_telldir(&again) == i, "a directory at a cookie");
+        wants(again.error == 0 && again.node == node && again.position == cookies[i], "the struct at a cookie");
+        wants(romtool_readdir(&again, &entry) == 0 && entry.some == (i < count), "an entry at a cookie");
+        wants(i == count || (entry.node == held[i].node && entry.name == held[i].name), "the entry at a cookie");
     }
     for (size_t i = count + 1; i-- > 0;) {
         wants(romtool_seekdir(&dir, i) == 0 && romtool_telldir(&dir) == i, "a position");
@@ -220,6 +231,27 @@ static void descriptions(const struct romtool_image *image) {
     wants(romtool_from_numbers(&again, NULL, 0, numbers) == ROMTOOL_NUMBERS, "a description without bytes");
 }
 
+/* The numbers of the nodes of all names: as often as the walk met them, in rising order, and nothing is written beside them. */
+static void numbered(const struct romtool_image *image) {
+    static uint32_t found[4 * NODES + 1];
+    uint64_t total = 0;
+    for (size_t i = 0; i < known; i++) {
+        total += names[i];
+    }
+    memset(found, 0xa5, sizeof found);
+    wants(total <= 4 * NODES && romtool_nodes(image, NULL, 0) == total, "the number of names");
+    wants(romtool_nodes(image, found, (romtool_size)total - 1) == total && found[0] == 0xa5a5a5a5u, "too little room");
+    wants(romtool_nodes(image, found, 4 * NODES) == total && found[total] == 0xa5a5a5a5u, "the numbers of all names");
+    for (size_t i = 1; i < total; i++) {
+        wants(found[i - 1] <= found[i], "numbers that do not rise");
+    }
+    for (size_t i = 0; i < known; i++) {
+        wants(romtool_links_among(found, (romtool_size)total, nodes[i]) == names[i], "how often a node occurs");
+    }
+    wants(romtool_links_among(found, (romtool_size)total, image->root + 1) == 0, "a number that is no node's");
+    wants(romtool_links_among(found, 0, image->root) == 0 && romtool_links_among(NULL, 0, 0) == 0, "no numbers");
+}
+
 int main(int argc, char **argv) {
     FILE *file = argc == 2 ? fopen(argv[1], "rb") : NULL;
     uint8_t *data = malloc(1 << 16);
@@ -245,6 +277,7 @@ int main(int argc, char **argv) {
         wants(romtool_links(&image, nodes[i]) == names[i], "the names of a node");
     }
     wants(romtool_links(&image, image.root + 1) == 0, "the names of no node");
+    numbered(&image);
     free(data);
     printf("calls %u\n", looked);
     return wrong != 0;

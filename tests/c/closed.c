@@ -48,6 +48,8 @@ static void no_image(const struct romtool_image *image, const uint8_t *path, siz
     wants(is_no_place(romtool_readlink_node(image, 32), ROMTOOL_CLOSED), "readlink of a node without an image");
     wants(!romtool_is_node(image, 32) && !romtool_is_node(image, 0), "a node without an image");
     wants(romtool_links(image, 32) == 0 && romtool_links(image, 0) == 0, "names without an image");
+    uint32_t numbers[2] = {7, 7};
+    wants(romtool_nodes(image, numbers, 2) == 0 && numbers[0] == 7 && numbers[1] == 7, "nodes without an image");
     const struct romtool_node above = romtool_parent(image, 32);
     wants(above.error == ROMTOOL_CLOSED && above.node == 0, "a parent without an image");
     wants(is_no_place(romtool_volume(image), ROMTOOL_CLOSED), "a volume without an image");
@@ -57,6 +59,8 @@ static void no_image(const struct romtool_image *image, const uint8_t *path, siz
     wants(file.error == ROMTOOL_CLOSED && file.node == 0 && budget == 7, "a file within a budget, without an image");
     wants(romtool_open_node(&file, image, 32) == ROMTOOL_CLOSED, "open of a node without an image");
     wants(file.error == ROMTOOL_CLOSED && file.node == 0 && file.position == 0, "a file of a node without an image");
+    wants(romtool_reopen(&file, image, 32, 5) == ROMTOOL_CLOSED, "a file that was open without an image");
+    wants(file.error == ROMTOOL_CLOSED && file.node == 0 && file.position == 0, "a file at a position without an image");
 }
 
 /* A file that is not open. */

@@ -11,7 +11,7 @@ import os
 from typing import IO, Any, Dict, Iterator, Optional, Tuple, Union
 
 from ._errors import Fault, Name, error_of
-from ._library import FAULT, RawEntry, RawFile, RawImage, RawPlace, library
+from ._library import FAULT, RawEntry, RawFile, RawImage, RawPlace, library, u32
 
 Source = Union[bytes, bytearray, memoryview, mmap.mmap, str, "os.PathLike[str]", "os.PathLike[bytes]", IO[bytes]]
 
@@ -126,15 +126,11 @@ class Held:
 
     @functools.cached_property
     def links(self) -> Dict[int, int]:
-        """Has the number of names of each node except the root, as romtool_links counts them: all are counted in one pass."""
-        found: Dict[int, int] = collections.Counter()
-        left = [int(self.raw.root)]
-        while left:
-            for _, kind, number in self.entries(left.pop(), "/"):
-                found[number] += 1
-                if kind == DIRECTORY:
-                    left.append(number)
-        return found
+        """Has the number of names of each node, as romtool_links counts them: all are counted in one pass."""
+        count = self.library.romtool_nodes(self.raw, None, 0)
+        numbers = (u32 * count)()
+        self.library.romtool_nodes(self.raw, numbers, count)
+        return collections.Counter(numbers)
 
     def lent(self, place: RawPlace, path: Name) -> memoryview:
         """Returns the bytes of a place, or raises its error."""

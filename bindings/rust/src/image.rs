@@ -208,6 +208,13 @@ impl<'a> Image<'a> {
         self.numbers.depth
     }
 
+    /// Writes the numbers ([`Node::offset`]) of the nodes of all names, in rising order, to the front of a slice: a number
+    /// occurs as often as names lead to its node. Returns the number of names. If the slice has less room, it is unchanged.
+    /// For n names, the time is n log n.
+    pub fn node_numbers(&self, numbers: &mut [u32]) -> u64 {
+        unsafe { raw::romtool_nodes(&self.raw(), numbers.as_mut_ptr(), numbers.len() as u64) }
+    }
+
     /// Returns the name of the volume, which may be empty.
     pub fn volume(&self) -> &'a [u8] {
         self.place(&unsafe { raw::romtool_volume(&self.raw()) }).unwrap_or(&[])

@@ -102,6 +102,8 @@ extern "C" {
     pub(crate) fn romtool_read_at(file: *const File, off: u64, buffer: *mut u8, len: u64, count: *mut u64) -> u32;
     #[link_name = "romtool_links_v3"]
     pub(crate) fn romtool_links(image: *const Image, node: u32) -> u64;
+    #[link_name = "romtool_nodes_v3"]
+    pub(crate) fn romtool_nodes(image: *const Image, numbers: *mut u32, room: u64) -> u64;
     #[link_name = "romtool_numbers_v3"]
     pub(crate) fn romtool_numbers(image: *const Image, numbers: *mut [u8; 48]);
     #[link_name = "romtool_from_numbers_v3"]

@@ -53,6 +53,19 @@ fn names_and_parents() {
 }
 
 #[test]
+fn numbers_of_all_names() {
+    let image = image();
+    let mut wanted = vec![image.root().offset()];
+    wanted.extend(image.walk().map(|found| found.entry().node().offset()));
+    wanted.sort_unstable();
+    let mut numbers = vec![7; wanted.len() + 1];
+    assert_eq!(image.node_numbers(&mut numbers[..2]), wanted.len() as u64);
+    assert_eq!(numbers, vec![7; wanted.len() + 1]);
+    assert_eq!(image.node_numbers(&mut numbers), wanted.len() as u64);
+    assert_eq!((&numbers[..wanted.len()], numbers[wanted.len()]), (wanted.as_slice(), 7));
+}
+
+#[test]
 fn reads_at_a_position() {
     let mut file = image().open("/etc/motd").unwrap();
     let mut buffer = [b'-'; 4];

@@ -1,12 +1,22 @@
 //! A file that is replaced by a new one, whole or not at all. `replace` makes a part (a new file
 //! beside the old one), fills it, synchronizes and closes it, gives it the name of the old one, and
 //! synchronizes the directory. `begin`, `finish`, `keep` and `abandon` are its steps.
+//! `specs/Crashes.antt` says what a crash may leave.
 //!
-//! Proved, for every implementation of `Directory`: at each moment the file is what it was or the
-//! new one, whole, and a crash at each moment leaves it so. At `Ok` it is the new one, and durable
-//! if the directory can be synchronized. After an error it is what it was, unless only the
-//! synchronization of the directory was refused. In both cases no part is left, unless its removal
-//! was refused. No other file is touched. `specs/Crashes.antt` says what a crash may leave.
+//! Proved, for every implementation of `Directory`:
+//!
+//! - `replace`, `finish`, `keep`, `begin`, `abandon`: at each moment the name leads to what it led
+//!   to before, or to the whole new file; after a crash to the whole new file, or to what a crash
+//!   before could have left. No other name is touched, except names of parts. At `Ok` it leads to
+//!   the new file, also after a later crash, unless the directory cannot be synchronized
+//!   (`Unknown`). At an error it leads to what it did, unless only that synchronization was
+//!   refused. No new part is left, unless its removal was refused.
+//! - `replace`, `finish`, `keep`, `begin`: an error has a cause: a refused call, names that are all
+//!   taken, or a failure that the source reports in its own terms.
+//! - `laws::refused_runs`: runs that break these promises: renaming the part before it is
+//!   synchronized and closed, or although that failed; writing into the file itself, or removing it
+//!   first; not synchronizing the directory; leaving the part after an error.
+//! - `Account`: it has exactly the calls and answers that were noted in it.
 #![tactic(auto)]
 
 mod account;

@@ -16,3 +16,18 @@ mod Joined
 mod LineFlushed
 pub mod Making
 mod Counted
+mod Owned
+mod Noted
+mod Told
+mod Blocks
+mod Least
+mod Alike
+mod Overlaid
+mod Ordered
+mod Attributed
+mod Fitted
+mod Directories
+mod Words
+mod Mapped
+mod Tabled
+mod Aligned

@@ -17,9 +17,9 @@ use Rattle.manifest.specs.Grammar.{fault_of}
 use Rattle.manifest.specs.Lines.{is_dir, is_hard, line_at, led}
 use Rattle.manifest.specs.Printed.{AreTaken, numbered, numbered_from}
 use Rattle.manifest.proofs.Checked.{sound_place}
-use Rattle.build_commands.specs.Inventory.{found_line, first_link, first_of, hard_line, is_linked}
+use Rattle.build_commands.specs.Inventory.{found_line, first_link, first_of, hard_line, is_linked, path_of}
 use Rattle.build_commands.specs.Inventory.{line_by, lines_behind, lines_found, name_line, plain_line}
-use Rattle.build_commands.specs.Reported.{AreOfOne, path_of}
+use Rattle.build_commands.specs.Reported.{AreOfOne}
 use Rattle.build_commands.specs.declared.inventory.FileKind.{FileKind}
 use Rattle.build_commands.specs.declared.inventory.FileKind.TheVariants as kind
 use Rattle.build_commands.specs.declared.inventory.NamedFile.{NamedFile}

@@ -22,11 +22,11 @@ use Rattle.manifest_tree.specs.Names.{Inode}
 use Rattle.manifest_tree.specs.Shape.{Value, file_value, node_under, node_value}
 use Rattle.manifest_tree.specs.Tree.{bare_root, file_at, file_named, inode_of, is_named, names_eq, or_else, root_of}
 use Rattle.manifest_tree.specs.Tree.{with_contents}
-use Rattle.build_commands.specs.Inventory.{first_link, found_line, line_by, lines_behind, lines_found}
+use Rattle.build_commands.specs.Inventory.{first_link, found_line, line_by, lines_behind, lines_found, path_of}
 use Rattle.build_commands.specs.Inventory.{name_line, plain_line}
 use Rattle.build_commands.specs.Reported.{AreOfOne, AreReportedAlike, Report, kind_named, major_of}
 use Rattle.build_commands.specs.Reported.{minor_of, node_report}
-use Rattle.build_commands.specs.Reported.{path_of, report_of, target_of}
+use Rattle.build_commands.specs.Reported.{report_of, target_of}
 use Rattle.build_commands.specs.declared.inventory.FileKind.{FileKind}
 use Rattle.build_commands.specs.declared.inventory.FileKind.TheVariants as kind
 use Rattle.build_commands.specs.declared.inventory.NamedFile.{NamedFile}

@@ -23,6 +23,10 @@ or_root (b ∷ bs) = b ∷ bs
 abbrev pub path_behind : ℕ → List ℕ → List ℕ
 path_behind front place = or_root (drop front place)
 
+-- the path of a file that was found
+abbrev pub path_of : NamedFile → List ℕ
+path_of f = path_behind f.front (string_bytes f.place)
+
 -- the alignment of a regular file: the one that was asked for, if it is executed in place;
 -- otherwise the usual one
 abbrev pub aligned : ℕ → Bool → ℕ

@@ -17,3 +17,14 @@ pub mod Built
 pub mod Limits
 pub mod ScanEnds
 pub mod Extracts
+pub mod Planned
+pub mod Foreseen
+pub mod Overlay
+pub mod Rights
+pub mod Noting
+pub mod Lists
+pub mod Fitting
+pub mod Devices
+pub mod TableRow
+pub mod DeviceTable
+pub mod Alignments

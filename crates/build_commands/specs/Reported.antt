@@ -5,7 +5,6 @@ use Rattle.rom_tree.specs.Image.{contents_of}
 use Rattle.rom_tree.specs.Tree.{Node, attributes_of, is_link, kind_of}
 use Rattle.rom_tree.specs.declared.types.Kind.{Kind}
 use Rattle.rom_tree.specs.declared.types.Kind.TheVariants as node_kind
-use Rattle.build_commands.specs.Inventory.{path_behind}
 use Rattle.build_commands.specs.declared.inventory.FileKind.{FileKind}
 use Rattle.build_commands.specs.declared.inventory.FileKind.TheVariants as kind
 use Rattle.build_commands.specs.declared.inventory.NamedFile.{NamedFile}
@@ -67,10 +66,6 @@ node_report image x = record {
   minor = (attributes_of x).minor;
   target = if is_link x then contents_of image x else [];
 }
-
--- the path of a file that was found
-abbrev pub path_of : NamedFile → List ℕ
-path_of f = path_behind f.front (string_bytes f.place)
 
 -- two names of one file: it has several links, and both names have its device and its number
 pub record AreOfOne (f g : NamedFile) : Type 0 where

@@ -1,18 +1,22 @@
-//! Laws about what is printed.
+//! Laws about what is printed and foreseen.
 ghost use Rattle.std.specs.List.{Contains};
 ghost use Rattle.std.specs.List.Sorted.{IsPermutation};
 ghost use Rattle.std.specs.Prelude.{ℕ, ◌≡◌, ◌≢◌, Bool, IsSomeAnd, List, None, Ok, Option, Some, []};
 ghost use Rattle.std.specs.Prelude.{false, length};
-ghost use Rattle.build_commands.specs.Inventory.{lines_found};
+ghost use Rattle.build_commands.specs.Foreseen.{AreMisreadAlike, IsFileOf};
+ghost use Rattle.build_commands.specs.Inventory.{lines_found, path_of};
 ghost use Rattle.build_commands.specs.Nearest.{HasSmallNumbers, nearest_in};
+ghost use Rattle.build_commands.specs.Planned.{last_of, romfs_path};
 ghost use Rattle.build_commands.specs.Reported.{AreOfOne, AreReportedAlike, kind_named};
-ghost use Rattle.build_commands.specs.Reported.{node_report, path_of, report_of};
+ghost use Rattle.build_commands.specs.Reported.{node_report, report_of};
 ghost use Rattle.build_commands.specs.Scanned.{AreTaken, Entry, lines_as, scan_text};
 ghost use Rattle.build_commands.specs.Scans.{IsScannable, all_shown};
 ghost use Rattle.build_commands.specs.declared.inventory.NamedFile.{NamedFile};
 ghost use Rattle.directory_walk.specs.Trees.{AreInOrder, Name, Tree, all_below};
 ghost use Rattle.formats.specs.Format.{format_of};
 ghost use Rattle.formats.specs.declared.format.Format as code;
+ghost use Rattle.linux_misreads.specs.Misreads.{in_romfs};
+ghost use Rattle.linux_misreads.specs.Tables.{romfs_view};
 ghost use Rattle.manifest.specs.Grammar.{manifest_of};
 ghost use Rattle.manifest.specs.Lines.{is_hard};
 ghost use Rattle.manifest.specs.Paths.{names_of};
@@ -23,8 +27,9 @@ ghost use Rattle.manifest_layout.specs.Misfit.{HasBadAttribute};
 ghost use Rattle.manifest_tree.specs.Meant.{IsMeant};
 ghost use Rattle.manifest_tree.specs.Shape.{node_under};
 ghost use Rattle.manifest_tree.specs.Tree.{inode_of};
-ghost use Rattle.rom_tree.specs.Tree.{Node, ino_of};
+ghost use Rattle.rom_tree.specs.Tree.{IsIn, Node, ino_of, nodes};
 ghost use Rattle.rom_tree.specs.declared.types.Kind.TheVariants as kind;
+ghost use Rattle.romfs_image.specs.declared.image.Romfs.{Romfs};
 
 /// States that a scan prints a manifest that has exactly one line for each entry, if the grammar
 /// accepts each entry after those before it. States the same for a directory as it is: its manifest
@@ -86,4 +91,17 @@ pub fn scan_is_the_tree()
         }) }
 {
     scans_are_manifests();
+}
+
+/// States that Linux misreads a name, a device or the text of a link of a romfs image exactly if it
+/// is foreseen of the path in the manifest, if the path leads to a node with the attributes, the
+/// contents and the size of the file of a line, as in each image of the manifest.
+pub fn romfs_names_are_foreseen()
+    ensures { (s : Romfs) (contents : List (List ℕ)) (lines : List Line) (sizes : List ℕ)
+        (path own : List ℕ) (o : Line) (x : Node) → IsIn x (nodes (romfs_view s).tree)
+        → IsFileOf (romfs_view s).bytes contents x (inode_of lines sizes o)
+        → AreMisreadAlike (in_romfs s (last_of path) x)
+        (romfs_path path own (inode_of lines sizes o)) }
+{
+    linux_misreads::laws::romfs_device_numbers();
 }

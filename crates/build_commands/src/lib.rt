@@ -1,46 +1,117 @@
 //! The end of a build, what the program prints when it builds images and scans directories, and the
 //! rules for make that it writes. A line is a list of parts (`Part`), which one function writes.
 //!
-//! Proved, for every directory, opener of files and output: what `Ok` of `build_file` means
-//! (`specs/Built.antt`). The text is a manifest, the file was replaced by the image of its plan,
-//! with the contents that reads told of the files by whose names its sources are opened, and
-//! exactly `ok LENGTH` was written. `build_over` is the same for a file that is written in place.
+//! `specs/Built.antt` says what a build is, `specs/Scans.antt` what a scan prints, and
+//! `specs/Rules.antt` what a rule is. GNU make has no spelling of some names, and reads some as
+//! something else; that it reads each permitted name as it is meant is tested, not proved. A rule
+//! has one without prerequisites for each source, so that make does not stop if a source was
+//! removed.
 //!
-//! Proved: each function writes exactly its line or its manifest, or a prefix of it if a write
-//! failed; and a scan prints a manifest of exactly the names that it found, which means a tree of
-//! the files that were reported (`laws`).
+//! Proved, for every directory, opener of files and output:
 //!
-//! `print_walked` prints what a walk finds, as the lines of a manifest. Proved: if a lister reports
-//! a tree, then the manifest that is printed of the entries of its walk has exactly one line for
-//! each file and directory in this tree, in the order of the bytes of their paths
-//! (`specs/Scans.antt`). This holds if a manifest accepts each name of the tree, if its paths are
-//! short enough, and if only directories are entered.
-//!
-//! A `Rule` has the files on which an image depends, and a rule without prerequisites for each
-//! source, so that make does not stop if a source was removed. GNU make has no spelling of some
-//! names, and reads some as something else. `Rule::is_sayable` accepts names of permitted bytes.
-//! Proved: the text is exactly the one of `specs/Rules.antt`, and a name is accepted exactly if it
-//! is sayable there. That make reads each such name as it is meant is tested, not proved.
+//! - `print_built`, `print_bad_manifest`, `print_misfit`, `print_size`, `print_strict`: the line
+//!   that a build prints: length, fault of the manifest, misfit, too large, refused warning; at an
+//!   `Ok` it was flushed once.
+//! - `print_xip`: the same for a program that would not be in place.
+//! - `warning_name`: the name of each warning.
+//! - `foreseen`, `Warnings::least`: what a build foresees that Linux would misread: by number, of
+//!   how many lines it is told and of which first; and the least of these, by line and then by
+//!   number.
+//! - `last_blocks`: exactly the lines of which it is told that their files end with a whole block.
+//! - `laws::romfs_names_are_foreseen`: a name, device or link of a romfs image is misread exactly
+//!   if it is foreseen of a line whose file it has.
+//! - `overlay::{sort, laid_over}`: of the files of several directories, exactly the last of each
+//!   path is left, in the order of the paths. If a directory and another kind of file have one
+//!   path, one of these files is named.
+//! - `rights::{file_at, set_all}`: each file has what the changes of its path, or of another name
+//!   of it, make of it, one after the other: the last owner and group, and the last mode. If no
+//!   file has the path of a change, the first such line is named, and no file changes.
+//! - `devices::listed`: the files and changes of a list of devices are exactly those of its lines,
+//!   each of which is a line of a manifest or one of `mode`. The first line that is refused by
+//!   itself is named; if there is none, the first whose file does not fit the others or the found
+//!   files.
+//! - `device_table::listed`: the same of a table of `makedevs`: what its rows make and set, one
+//!   after the other, beside the found files, and the last file of each path.
+//! - `alignments::share_alignments`: each name of a file with several links gets the largest
+//!   alignment of its names, and nothing else changes.
+//! - `print_unfit`, `changes::count_changes`: the line of a strict scan, and the numbers in it.
+//! - `build_file`, `build_over`, `most_bytes`: if a build is `Ok`: its text is a manifest, OUT was
+//!   replaced by the image of the manifest's plan in FORMAT, with the contents that the opener's
+//!   reads told of the files by whose names the manifest's sources are opened (`-C`), and with the
+//!   bytes after it that `--size` and `--fill` ask for; the image has at most the bytes of
+//!   `--max-size` and `--size`; with `--strict` nothing was foreseen that Linux would misread, and
+//!   with `--xip` the programs were looked at; the companion, as a rule for make, was kept; and
+//!   exactly `ok LENGTH` was written. At each moment OUT is what it was or this image. What each
+//!   error leaves of OUT, of the companion (given up, if OUT is not the image) and of the output.
+//!   If OUT is written in place (`build_over`), only this is said of it: at `Ok` it was closed with
+//!   exactly these bytes behind what it had, and neither its synchronization nor its close failed.
+//! - `scan_directory`: if a plain scan is `Ok`: exactly the lines of all that the walk found were
+//!   written and flushed once, after each directory was as it was found; if the lister tells a tree
+//!   that a manifest can describe, the text is its manifest. Nothing is written if a directory
+//!   could not be listed or changed.
+//! - `extract_image`: if an extraction is `Ok`: each member was made whole, with its rights, the
+//!   directory itself was finished after all calls that made them, and exactly the manifest was
+//!   written and flushed, if one is wanted. Nothing is written if a member or the directory is
+//!   refused.
+//! - `joined_name`: the name by which a source in a directory is opened.
+//! - `put_scan`: the lines of a plain scan are exactly one for each directory and file that was
+//!   found; at an `Ok` each was flushed once.
+//! - `inventory::{lines, put_found}`: a directory as it is has one line for each found file, with
+//!   what the system reported, flushed once at an `Ok`; of a file that is no directory and has
+//!   several links, a further name of the first found one with the same inode and several links. A
+//!   volume name has its line before these.
+//! - `nearest`: for a format each line is adjusted to what it accepts.
+//! - `inventory::align_of`: a regular file has the alignment that the caller asked for exactly if
+//!   it is a program. Otherwise the alignment is 4.
+//! - `changes::changes_of`: whether the owner, group or mode of a line differs from the file's, and
+//!   whether all users may read what the line makes but not the file.
+//! - `laws::nearest_fits`: attributes of an adjusted line have no misfit, if it is not a `hard`
+//!   line and its device numbers fit.
+//! - `laws::scans_are_manifests`: if the grammar accepts each line of a scan after the lines before
+//!   it, the output is a manifest with exactly these lines (both kinds).
+//! - `laws::found_files_are_meant`: if also no format was chosen, and the system reports the same
+//!   of a file by each of its names, the tree that it means has at each found path a node with the
+//!   kind, mode, owner, group, device numbers and link text that were reported; two names of one
+//!   file that is no directory have one node.
+//! - `print_walked`: a plain scan is printed of the entries of a walk, and flushed once at an `Ok`;
+//!   if memory was refused, nothing is written.
+//! - `laws::scan_is_the_tree`: if a lister reports a tree whose names and paths a manifest accepts,
+//!   and only directories are entered, the text is the manifest of this tree: exactly one line for
+//!   each file and directory below, in the order of the bytes of their paths.
+//! - `Rule::text`: the text of the rules for make: the target, a colon, and the manifest, the
+//!   sources and the directories as prerequisites, then a rule without prerequisites for each
+//!   source and directory; in each name, which bytes have backslashes or dollars before them.
+//! - `Rule::is_sayable`: whether all names have a spelling.
 #![tactic(auto)]
 
+pub mod alignments;
 mod building;
 pub mod changes;
 mod command;
 mod companion;
+pub mod device_table;
+pub mod devices;
 mod extract;
 mod fate;
+mod fits;
 pub mod inventory;
+mod kept;
 pub mod laws;
 mod limits;
 mod line;
+pub mod listing;
 mod nearest;
+pub mod overlay;
 mod part;
+mod planned;
 mod printing;
+pub mod rights;
 mod rule;
 mod rule_name;
 mod scan;
 mod scanning;
 mod sources;
+mod table_row;
 mod warnings;
 
 pub use building::{
@@ -58,4 +129,4 @@ pub use rule::Rule;
 pub use scan::{Recheck, Unscanned, scan_directory};
 pub use scanning::{Found, put_scan};
 pub use sources::joined_name;
-pub use warnings::warning_name;
+pub use warnings::{Warning, Warnings, foreseen, last_blocks, warning_name};

@@ -40,7 +40,7 @@ pub struct Misread {
 /// What Linux would make of a planned image, as a build foresees it.
 #[derive(Clone, Copy, Debug, PartialEq, Eq)]
 pub struct Foreseen {
-    /// The first thing that Linux would misread, if there is one.
+    /// The first thing that Linux would misread, if it was looked for and there is one.
     pub misread: Option<Misread>,
     /// The number of programs, each of which Linux would execute in place, if they were looked at.
     pub programs: Option<u64>,

@@ -1,20 +1,10 @@
 -- Numbers of bytes with a unit behind them.
-use Rattle.std.proofs.Common.{◌≡◌, ◌*◌, ◌<◌, ℕ, List, ◌++◌, codes, Option, Some, None}
+use Rattle.std.proofs.Common.{◌≡◌, ◌*◌, ◌<◌, ℕ, List, [], ◌∷◌, ◌++◌, Option, Some, None}
 use Rattle.std.specs.Prelude.{IfSome}
 use Rattle.std.specs.Option.{SomeIff}
-use Rattle.command_line.specs.Numbers.{IsNumber, IsSize, in_gigabytes, in_kilobytes, in_megabytes}
+use Rattle.command_line.specs.Numbers.{IsNumber, IsSize, in_units, unit_of}
 
-pub kilobytes : (word digits : List ℕ) (k : ℕ) (r : Option ℕ) (C : Type 0) → word ≡ digits ++ codes "K"
-    → IsNumber 10 digits k → SomeIff r C (k * 1024) → IfSome r (IsSize word)
-kilobytes word digits k None C e n h = tt
-kilobytes word digits k (Some s) C e n h = in_kilobytes digits k e n h.1
-
-pub megabytes : (word digits : List ℕ) (k : ℕ) (r : Option ℕ) (C : Type 0) → word ≡ digits ++ codes "M"
-    → IsNumber 10 digits k → SomeIff r C (k * 1048576) → IfSome r (IsSize word)
-megabytes word digits k None C e n h = tt
-megabytes word digits k (Some s) C e n h = in_megabytes digits k e n h.1
-
-pub gigabytes : (word digits : List ℕ) (k : ℕ) (r : Option ℕ) (C : Type 0) → word ≡ digits ++ codes "G"
-    → IsNumber 10 digits k → SomeIff r C (k * 1073741824) → IfSome r (IsSize word)
-gigabytes word digits k None C e n h = tt
-gigabytes word digits k (Some s) C e n h = in_gigabytes digits k e n h.1
+pub units : (word digits : List ℕ) (letter unit k : ℕ) (r : Option ℕ) (C : Type 0) → word ≡ digits ++ letter ∷ []
+    → unit_of letter ≡ Some unit → IsNumber 10 digits k → SomeIff r C (k * unit) → IfSome r (IsSize word)
+units word digits letter unit k None C e u n h = tt
+units word digits letter unit k (Some s) C e u n h = in_units digits letter unit k e u n h.1

@@ -1,6 +1,6 @@
 -- The values of single words: alignments, addresses, numbers of bytes, owners. (This
 -- project's own.)
-use Rattle.std.specs.Prelude.{◌≡◌, ◌*◌, ℕ, List, [], ◌∷◌, ◌++◌, codes, find, drop, true}
+use Rattle.std.specs.Prelude.{◌≡◌, ◌*◌, ◌^◌, ◌||◌, ℕ, List, [], ◌∷◌, ◌++◌, codes, find, drop, true}
 use Rattle.std.specs.Prelude.{Option, Some, None, option_map, ◌==◌, if◌then◌else◌}
 use Rattle.std.specs.List.{starts_with}
 use Rattle.std.specs.Str.Parse.{IsNumeral, digits_value}
@@ -18,7 +18,9 @@ align_words =
     ∷ (codes "8192", 8192) ∷ (codes "16384", 16384) ∷ (codes "32768", 32768)
     ∷ (codes "65536", 65536)
     ∷ (codes "4K", 4096) ∷ (codes "8K", 8192) ∷ (codes "16K", 16384) ∷ (codes "32K", 32768)
-    ∷ (codes "64K", 65536) ∷ []
+    ∷ (codes "64K", 65536)
+    ∷ (codes "4k", 4096) ∷ (codes "8k", 8192) ∷ (codes "16k", 16384) ∷ (codes "32k", 32768)
+    ∷ (codes "64k", 65536) ∷ []
 
 -- the alignment that a word names
 abbrev pub align_named : List ℕ → Option ℕ
@@ -47,18 +49,21 @@ pub data AreAddresses : List (List ℕ) → List ℕ → Type 0 where
   next_address : (ws : List (List ℕ)) (ns : List ℕ) (w : List ℕ) (n : ℕ) → AreAddresses ws ns
       → IsAddress w n → AreAddresses (ws ++ w ∷ []) (ns ++ n ∷ [])
 
--- a word is this number of bytes: hexadecimal digits after `0x`; or decimal digits, after which K,
--- M or G may be, for units of 2^10, 2^20 and 2^30
+-- the number of bytes of a unit, by its letter: K, M or G, capital or small
+abbrev pub unit_of : ℕ → Option ℕ
+unit_of letter =
+    if (letter == 75) || (letter == 107) then Some (2 ^ 10) else
+    if (letter == 77) || (letter == 109) then Some (2 ^ 20) else
+    if (letter == 71) || (letter == 103) then Some (2 ^ 30) else None
+
+-- a word is this number of bytes: hexadecimal digits after `0x`; or decimal digits, after which the
+-- letter of a unit may be
 pub data IsSize (word : List ℕ) (n : ℕ) : Type 0 where
   in_hexadecimal : starts_with (λ a b. a == b) word (codes "0x") ≡ true
       → IsNumber 16 (drop 2 word) n → IsSize word n
   in_decimal : IsNumber 10 word n → IsSize word n
-  in_kilobytes : (digits : List ℕ) (k : ℕ) → word ≡ digits ++ codes "K" → IsNumber 10 digits k
-      → n ≡ k * 1024 → IsSize word n
-  in_megabytes : (digits : List ℕ) (k : ℕ) → word ≡ digits ++ codes "M" → IsNumber 10 digits k
-      → n ≡ k * 1048576 → IsSize word n
-  in_gigabytes : (digits : List ℕ) (k : ℕ) → word ≡ digits ++ codes "G" → IsNumber 10 digits k
-      → n ≡ k * 1073741824 → IsSize word n
+  in_units : (digits : List ℕ) (letter unit k : ℕ) → word ≡ digits ++ letter ∷ []
+      → unit_of letter ≡ Some unit → IsNumber 10 digits k → n ≡ k * unit → IsSize word n
 
 -- a word is this owner: the numbers of a user and a group in decimal digits, with a colon between
 -- them

@@ -1,8 +1,18 @@
-//! The words of a command line.
+//! The words of a command line. How clap distinguishes values from options is its own rule, and is
+//! tested, as are the texts of help.
 //!
-//! Proved: which words name which format, alignment, address, number of bytes and owner; and that a
-//! request has the values that clap returns for the subcommand's arguments. How clap distinguishes
-//! values from options is its own rule, and is tested, as are the texts of help.
+//! Proved:
+//!
+//! - `read`, and `asked` in it: the example image is asked for exactly if there are no words, or
+//!   only `--explain`. If other words are accepted, they ask for their subcommand with its
+//!   arguments, each the value that clap's walk returns, and for images of at most the bytes of
+//!   `--max-size`.
+//! - `read`, and `align_named`, `address_named`, `size_named`, `owner_named`, `align_rule_named` in
+//!   it: a format, an alignment, a number of bytes, an owner, a pattern's alignment and an address
+//!   (hexadecimal digits) are the values of their words.
+//! - `read`, and `command` in it: clap receives exactly the subcommands, words and options of
+//!   `table.rt`, among them `--explain` and a version.
+//! - `is_explain`: the word that asks for explanations.
 #![tactic(auto)]
 
 mod asking;

@@ -1,7 +1,7 @@
 //! The values that single words name: alignments, addresses, sizes and owners.
 ghost use Rattle.std.specs.Prelude.{◌≡◌, ◌≢◌, ◌≤◌, IfNone, IfSome, Some};
 ghost use Rattle.command_line.specs.Numbers.{IsAddress, IsAlignRule, IsNumber, IsOwner, IsSize};
-ghost use Rattle.command_line.specs.Numbers.{align_named};
+ghost use Rattle.command_line.specs.Numbers.{align_named, unit_of};
 
 use crate::request::{AlignRule, Owner};
 use memchr::{memchr, memrchr};
@@ -32,6 +32,11 @@ pub fn align_named(word: &[u8]) -> Option<u32>
         b"16K" => Some(16384),
         b"32K" => Some(32768),
         b"64K" => Some(65536),
+        b"4k" => Some(4096),
+        b"8k" => Some(8192),
+        b"16k" => Some(16384),
+        b"32k" => Some(32768),
+        b"64k" => Some(65536),
         _ => None,
     }
 }
@@ -71,20 +76,29 @@ pub fn address_named(word: &str) -> Option<u64>
     address_in(word.as_bytes())
 }
 
-/// Returns the number of bytes that decimal digits and a unit as the last byte name.
-fn scaled(word: &[u8]) -> Option<u64>
-    ensures { IfSome result (IsSize word.now) }
+/// Returns the number of bytes of a unit, by its letter.
+fn unit_of(letter: u8) -> Option<u64>
+    ensures { result ≡ unit_of letter }
 {
-    match word.split_last() {
-        Some((b'K', digits)) => number(10, digits)?.checked_mul(1024),
-        Some((b'M', digits)) => number(10, digits)?.checked_mul(1048576),
-        Some((b'G', digits)) => number(10, digits)?.checked_mul(1073741824),
+    match letter {
+        b'K' | b'k' => Some(1 << 10),
+        b'M' | b'm' => Some(1 << 20),
+        b'G' | b'g' => Some(1 << 30),
         _ => None,
     }
 }
 
+/// Returns the number of bytes that decimal digits and a unit as the last byte name.
+fn scaled(word: &[u8]) -> Option<u64>
+    ensures { IfSome result (IsSize word.now) }
+{
+    let (letter, digits) = word.split_last()?;
+    let unit = unit_of(*letter)?;
+    number(10, digits)?.checked_mul(unit)
+}
+
 /// Returns the number of bytes that a word names: decimal digits, with K, M or G after them for
-/// units of 2^10, 2^20 and 2^30, or hexadecimal digits after `0x`.
+/// units of 2^10, 2^20 and 2^30, capital or small, or hexadecimal digits after `0x`.
 pub fn size_named(word: &str) -> Option<u64>
     ensures { IfSome result (IsSize word.now) }
 {

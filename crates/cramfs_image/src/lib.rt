@@ -1,12 +1,19 @@
-//! `Cramfs::check`, which accepts the bytes of a cramfs image or names their least fault; and
-//! `Cramfs`, the checked image as a `TreeImage`, which copies no contents (Linux
-//! Documentation/filesystems/cramfs.rst). The blocks of an image must not be compressed. `crc32` is
-//! the checksum of the format, from the crate `crc`.
+//! The check of a cramfs image, whose blocks must not be compressed; and `Cramfs`, the checked
+//! image as a `TreeImage`, which copies no contents.
 //!
-//! Proved: an image is returned only if the bytes hold a tree of files, as `cramfs_format` defines
-//! it, and have no fault. A fault is returned only if they hold no tree, and it is the least one.
-//! Each call on the image answers from the tree, and `Cramfs::extents` lists the extents of the
-//! tree. By `laws::exact` there is no fault exactly if there is a tree.
+//! `cramfs_format` defines trees and faults (Linux Documentation/filesystems/cramfs.rst).
+//!
+//! Proved:
+//!
+//! - `Cramfs::check`: an image is accepted only if its bytes hold a tree and have no fault, in the
+//!   byte order of their magic. A fault is reported only if they hold no tree in either order; it
+//!   is the least fault of the set, by phases.
+//! - `report`, `big`: the report, and the byte order.
+//! - `Cramfs::extents`: the extents of a checked image are those of its tree: each is in the list
+//!   at least once, and the list has no others.
+//! - `laws::exact`: the fault set is empty exactly if the bytes hold a tree, in either byte order.
+//! - `Cramfs` as `rom_tree::TreeImage`: every call on an accepted image answers from that tree; a
+//!   run reaches to the end of its block.
 #![tactic(auto)]
 
 mod accessible;

@@ -1,10 +1,12 @@
 //! The plan of a cramfs image, in either byte order, from rows: the names of a manifest in
-//! preorder. `lay_out` returns its length and its inodes as items, or reports that the whole is too
-//! large; `sections` returns its sections.
+//! preorder. One pass goes over the rows backwards and computes the lengths of lists, another goes
+//! forwards and computes offsets; neither needs recursion. Items and sections are sorted by their
+//! offsets. `cramfs_layout` defines the layout.
 //!
-//! Proved: they are those of the layout (`cramfs_layout`). One pass goes over the rows backwards
-//! and computes the lengths of lists. Another goes forwards and computes offsets. Neither needs
-//! recursion. Items and sections are sorted by their offsets.
+//! Proved:
+//!
+//! - `lay_out`, `sections`: the length, the inodes with their offsets, and the sections of a cramfs
+//!   image, in either byte order, are those of the layout; or the image is too large as a whole.
 #![tactic(auto)]
 
 mod items;

@@ -1,11 +1,13 @@
-//! A cramfs image from its plan, in either byte order. `write` puts it into a buffer;
-//! `stream_through` and `stream` write it to a writer.
+//! A cramfs image from its plan, in either byte order, into a buffer or to a writer.
+//! `specs/Form.antt` has the image's segments; `cramfs_layout` and `manifest_layout` define the
+//! layout.
 //!
-//! Proved: at an `Ok` of `write`, the buffer holds exactly the layout (`cramfs_layout`,
-//! `manifest_layout`), whatever it held before. At an `Ok` of `stream` or `stream_through`, exactly
-//! the layout was written, if the contents of the sources are known. An error of `write` names the
-//! first file whose size is not the planned one, and leaves the buffer as it was. `specs/Form.antt`
-//! has the image's segments.
+//! Proved, for either byte order:
+//!
+//! - `write`: at an `Ok` the buffer has exactly the layout, whatever it held before; an error names
+//!   the first file of another size, and the buffer is as it was.
+//! - `stream_through`, `stream`, `stream_once`: at an `Ok` exactly the layout was written, if the
+//!   sources report their contents; the errors are those of `image_stream`.
 #![tactic(auto)]
 
 mod form;

@@ -1,8 +1,10 @@
-//! `crc32`, `crc32_more`: CRC-32, the checksum of ISO 3309 and ITU-T V.42, of bytes in one piece or
-//! in several.
+//! CRC-32, the checksum of ISO 3309 and ITU-T V.42. A long piece is first reduced to its last 300
+//! bytes, without a table.
 //!
-//! Proved: the result is that of the definition in `specs/Crc.antt`, which goes bit by bit. A long
-//! piece is first reduced to its last 300 bytes, without a table.
+//! Proved:
+//!
+//! - `crc32`, `crc32_more`: the CRC-32 of bytes, in one piece or in several, is the value of its
+//!   definition, bit by bit (`specs/Crc.antt`).
 #![tactic(auto)]
 
 mod bits;

@@ -1,9 +1,21 @@
 //! The program headers of an ELF file, and the pages of the file that Linux maps for them.
 //!
-//! Proved: each field is that of the System V gABI (`specs/Header.antt`), in files of 32 and 64
-//! bits and in either byte order. Whatever the bytes are, nothing outside them is read. The pages
-//! are those of Linux's loader (`specs/Loading.antt`). A file whose text has relocations is told
-//! apart (`specs/Dynamic.antt`).
+//! Fields are those of the System V gABI (`specs/Header.antt`), pages those of Linux's loader as
+//! restated in `specs/Loading.antt`. Relocations of a file's text are in `specs/Dynamic.antt`.
+//!
+//! Proved:
+//!
+//! - `Header::{read, program}`, `Program::read`, `elf_kind`: the header and the program headers of
+//!   an ELF file, of 32 and 64 bits and in either byte order, or that there are none; whatever the
+//!   bytes are, nothing outside them is read.
+//! - `Order::{half, word, long}`, `Class::{header_size, program_size, address_size, address}`: the
+//!   numbers of a file; the sizes of headers and addresses.
+//! - `Program::{loading, zero_pages}`: the pages that Linux maps for a program header, and the
+//!   pages of zeros behind them.
+//! - `moves_text`, `Program::moves_text`, `has_fixed`: whether the text has relocations, and
+//!   whether a segment cannot be written.
+//! - `needs_pages`: whether a file needs pages of its own: it has such a segment, or has the flat
+//!   format.
 #![tactic(auto)]
 
 mod dynamic;

@@ -1,25 +1,39 @@
 //! What romtool promises, on one page.
 //!
+//! `specs/Headline.antt` defines its words, `specs/Lent.antt` what is lent, and `specs/Alike.antt`
+//! when two trees are alike. docs/internals/PROVED.md explains each clause of `headline`.
+//!
 //! Proved:
 //!
-//! - For every image that the check accepts, and for all lines, the server writes the replies of a
-//!   plain tree of files with a table of open descriptors. The tree is the one that the format
-//!   gives those bytes.
-//! - An image that was built from a manifest is accepted, and is served as the tree that the
-//!   manifest means. The same holds for an image that was streamed from files. What the superblock
-//!   of such an image states is true of it.
-//! - Linux executes the programs of such a cramfs image in place, if their ALIGN is a multiple of
-//!   4,096 and the image is in flash.
-//! - Lent bytes are a slice of the image, at the reported offset.
-//! - An image that is taken apart and built again has a tree like its own.
-//! - The name of a file that an image replaces leads, at each moment and after a crash, to what it
-//!   led to before, or to a whole image of the manifest in which a check finds no fault.
-//!
-//! `specs/Headline.antt` defines these words, and `specs/Lent.antt` defines what is lent.
-//!
-//! `laws` says which accepted images their manifest describes whole: all, unless a link's text has
-//! a zero byte, a path is too long, or the volume's name is. The tree that the manifest means is
-//! like the image's (`specs/Alike.antt`).
+//! - `headline`, `streamed`: **if the check accepts an image, `serve` answers any lines as the one
+//!   tree does that the format gives those bytes; if not, it prints the least fault and reads no
+//!   line; and an image that was built from a manifest is accepted, and is served as the tree that
+//!   the manifest means.** The clauses on built images also hold of streamed ones. What the
+//!   superblock of such an image states is true of it. If such a cramfs image is in flash, Linux
+//!   maps each page of a file whose ALIGN is a multiple of 4,096 at the address of its bytes,
+//!   except a last page with other data.
+//! - `streamed`: a streamed image is refused only for memory, and served as the tree that the
+//!   manifest means, even for sources that report nothing. Each `file` and each `same` line has
+//!   contents of its own, of the planned size: what the reads of its source returned. If no source
+//!   is used twice, they are the contents of the sources.
+//! - `laws::accepted_is_lawful`, `laws::accepted_is_taken`, `laws::accepted_is_described`,
+//!   `laws::extracted_is_described`: **the manifest of an accepted image, of either format, is
+//!   valid, has exactly the lines of its names, and means the image's tree**, if no link's text has
+//!   a zero byte, no path has more than 4,095 bytes, and the volume name has at most 255. If one of
+//!   the first two fails, the grammar refuses the lines.
+//! - `laws::built_again_is_alike`, `built_again`: take the contents of the image's files as the
+//!   sources of a manifest that describes all of it. Any tree that the manifest means, and that of
+//!   an image which is built of them in any format, is like the first: the same at each path, and
+//!   the same paths share a file. The built image has no fault.
+//! - `naming::built_is_named`, `naming::streamed_is_named`: the volume name that
+//!   `image_info::volume` returns for a built or streamed image is the manifest's.
+//! - `lent`: whatever lines came before, a reply `ok` to `lend` or `map` has a slice of the image's
+//!   own bytes, from the reported PLACE on: the bytes of the open file from its position, or from
+//!   the requested offset on. So has the text of a link. A file in one run is lent whole by one
+//!   `map`.
+//! - `durable::replaced_by_an_image`: if an image replaces a file (`image_build::put`), in a
+//!   directory whose files report their bytes, the file's name leads at each moment, and after a
+//!   crash, to what it led to before, or to a whole image of the manifest's plan, without a fault.
 #![tactic(auto)]
 
 pub mod durable;

@@ -1,5 +1,9 @@
 pub mod Compared
 pub mod Agreed
+pub mod Directed
+pub mod Entered
+pub mod Listed
+pub mod Ordered
 pub mod Reached
 pub mod Sorting
 pub mod Stepped

@@ -1,18 +1,16 @@
 -- The lines that were put, and those that are left.
-use Rattle.std.proofs.Common.{◌≡◌, ℕ, ◌+◌, ◌-◌, Bool, false, List, [], ◌++◌, map, length, take, drop, refl, sym, ap}
-use Rattle.std.proofs.Common.{◌∙◌, arith, append_assoc, append-nil}
+use Rattle.std.proofs.Common.{◌≡◌, ℕ, ◌+◌, Bool, false, List, [], ◌++◌, drop, refl, sym, ap, ◌∙◌, append_assoc}
+use Rattle.std.proofs.Common.{append-nil}
 use Rattle.std.specs.Prelude.{◌||◌}
-use Rattle.std.proofs.lemmas.List.{take_rest, drop-drop, drop-map}
+use Rattle.std.proofs.lemmas.List.{drop-drop}
 use Rattle.rom_fields.specs.Written.{Puts, Sink}
 use Rattle.rom_fields.proofs.Joins.{puts_nothing, chain}
-use Rattle.rom_tree.specs.Image.{Image}
 use Rattle.rom_tree.specs.Names.{Name}
-use Rattle.image_compare.specs.declared.rows.Row.{Row}
 use Rattle.image_compare.specs.declared.steps.Step.{Step}
 use Rattle.image_compare.specs.Diff.{names_lines, is_printed}
-use Rattle.image_compare.specs.Rows.{AreKnown, AreRows, StepPuts, row_key, name_key}
+use Rattle.image_compare.specs.Rows.{StepPuts}
 use Rattle.image_compare.proofs.Printed.{printed_both}
-use Rattle.image_compare.proofs.Stepped.{none_left, none_is}
+use Rattle.image_compare.proofs.Stepped.{none_is}
 
 pub record IsReached (s t : Sink) (places : Bool) (a b : List ℕ) (ps qs : List Name) (i j : ℕ)
     (printed : Bool) : Type 0 where
@@ -24,17 +22,6 @@ pub record IsReached (s t : Sink) (places : Bool) (a b : List ℕ) (ps qs : List
 pub reached_none : (s : Sink) (places : Bool) (a b : List ℕ) (ps qs : List Name)
     → IsReached s s places a b ps qs 0 0 false
 reached_none s places a b ps qs = record { done = []; puts = puts_nothing s; rest = refl; printed_is = refl }
-
--- what is left of the rows is that of what is left of the names
-pub rows_left : (m : Image) (rows : List Row) (ns : List Name) (i : ℕ) → AreRows m rows ns
-    → AreRows m (take (length rows - i) (drop i rows)) (drop i ns)
-rows_left m rows ns i h =
-    ap (map (row_key m)) (take_rest rows i)
-    ∙ (sym (drop-map (row_key m) i rows) ∙ (ap (drop i) h ∙ drop-map name_key i ns))
-
-pub known_left : (m : Image) (rows : List Row) (i : ℕ) → AreKnown m rows
-    → AreKnown m (take (length rows - i) (drop i rows))
-known_left m rows i h = (drop i h.0, rows_left m rows h.0 i h.1)
 
 -- a step more
 pub reached_more : (s t u : Sink) (places : Bool) (a b : List ℕ) (ps qs : List Name) (i j : ℕ) (printed more : Bool)
@@ -53,14 +40,9 @@ reached_more s t u places a b ps qs i j printed more r h k e = record {
 }
 
 -- nothing is left
-pub reached_all : (s t : Sink) (places : Bool) (a b : List ℕ) (m n : Image) (xs ys : List Row) (ps qs : List Name)
-    (i j : ℕ) (printed : Bool) → AreRows m xs ps → AreRows n ys qs
-    → length (take (length xs - i) (drop i xs)) + length (take (length ys - j) (drop j ys)) ≡ 0
-    → (h : IsReached s t places a b ps qs i j printed) → h.done ≡ names_lines places a b ps qs
-reached_all s t places a b m n xs ys ps qs i j printed d e l h =
-    let f : List Row = take (length xs - i) (drop i xs) in
-    let g : List Row = take (length ys - j) (drop j ys) in
-    let p : drop i ps ≡ [] = none_left m f (drop i ps) (rows_left m xs ps i d) (omega (arith, l)) in
-    let q : drop j qs ≡ [] = none_left n g (drop j qs) (rows_left n ys qs j e) (omega (arith, l)) in
+pub reached_all : (s t : Sink) (places : Bool) (a b : List ℕ) (ps qs : List Name) (i j : ℕ) (printed : Bool)
+    → drop i ps ≡ [] → drop j qs ≡ [] → (h : IsReached s t places a b ps qs i j printed)
+    → h.done ≡ names_lines places a b ps qs
+reached_all s t places a b ps qs i j printed p q h =
     sym (append-nil h.done) ∙ (ap (λ (v : List ℕ). h.done ++ v) (sym (ap (λ (v : List Name). names_lines places a b v
     (drop j qs)) p ∙ (ap (names_lines places a b []) q ∙ none_is places a b))) ∙ h.rest)

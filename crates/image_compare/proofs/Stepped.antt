@@ -1,18 +1,18 @@
 -- The first lines of two lists of names.
-use Rattle.std.proofs.Common.{◌≡◌, ℕ, ◌<◌, Bool, true, false, List, [], ◌∷◌, ◌++◌, map, length, get_or, refl, sym, ap}
-use Rattle.std.proofs.Common.{◌∙◌, subst}
+use Rattle.std.proofs.Common.{◌≡◌, ℕ, ◌<◌, Bool, true, false, List, [], ◌∷◌, ◌++◌, refl, sym, ap}
+use Rattle.std.proofs.Common.{◌∙◌, subst, ◌+◌, ◌≤◌, None}
+use Rattle.std.specs.Prelude.{IfNone, IfSome, IsNone}
+use Rattle.std.proofs.lemmas.Bool.{true≢false}
 use Rattle.std.proofs.Common.{arith, Option, Some}
-use Rattle.std.proofs.lemmas.List.{length-map}
 use Rattle.std.specs.Cmp.Lexicographic.{slice_cmp}
 use Rattle.std.specs.Ordering.{nat_cmp, is_lt}
 use Rattle.rom_fields.specs.Written.{Puts, Sink}
-use Rattle.rom_tree.specs.Tree.{Node}
-use Rattle.rom_tree.specs.Image.{Image, image_node}
+use Rattle.rom_tree.specs.Image.{Image}
 use Rattle.rom_tree.specs.Names.{Name}
-use Rattle.image_compare.specs.declared.rows.Row.{Row}
+use Rattle.image_compare.specs.declared.steps.Named.{Named}
 use Rattle.image_compare.specs.declared.steps.Step.{Step}
 use Rattle.image_compare.specs.Diff.{removed_line, added_line, node_lines, names_lines, is_printed}
-use Rattle.image_compare.specs.Rows.{AreRows, StepPuts, row_key, name_key}
+use Rattle.image_compare.specs.Rows.{IsNext, StepPuts}
 use Rattle.image_compare.proofs.Printed.{removed_printed, added_printed}
 
 module _ (places : Bool) (a b : List ℕ) (p q : Name) (ps qs : List Name) where
@@ -115,33 +115,14 @@ module _ (s t : Sink) (places : Bool) (a b : List ℕ) (p q : Name) (ps qs : Lis
     printed = added_printed q.path;
   }
 
--- ---- the first of some rows
+-- ---- the next name of a list
 
-pub record IsFirst (m : Image) (ns : List Name) (x : Row) : Type 0 where
-  pub name : Name
-  pub rest : List Name
-  pub is : ns ≡ name ∷ rest
-  pub path : x.path.items ≡ name.path
-  pub node : image_node m x.node.0 ≡ Some name.node
+pub nothing_next : (m : Image) (o : Option Named) (ns : List Name) → IsNone o → IsNext m o ns → ns ≡ []
+nothing_next m None ns h k = k
+nothing_next m (Some n) ns h k = absurd (true≢false h)
 
-pub first_of : (m : Image) (rows : List Row) (ns : List Name) (x : Row) → AreRows m rows ns → 0 < length rows
-    → x ≡ get_or rows 0 x → IsFirst m ns x
-first_of m [] ns x h k e = absurd (omega (arith, k))
-first_of m (r ∷ rows) [] x h k e =
-    let l : length (map (row_key m) (r ∷ rows)) ≡ 0 = ap length h in absurd (omega (arith, l))
-first_of m (r ∷ rows) (n ∷ ns) x h k e =
-    let d : row_key m x ≡ name_key n = ap (row_key m) e
-    ∙ ap (λ (l : List (List ℕ × Option Node)). get_or l 0 (row_key m r)) h in
-    record {
-      name = n;
-      rest = ns;
-      is = refl;
-      path = ap (λ (v : List ℕ × Option Node). v.0) d;
-      node = ap (λ (v : List ℕ × Option Node). v.1) d;
-    }
-
-pub none_left : (m : Image) (rows : List Row) (ns : List Name) → AreRows m rows ns → length rows ≡ 0 → ns ≡ []
-none_left m rows [] h k = refl
-none_left m rows (n ∷ ns) h k =
-    let l : length (map (row_key m) rows) ≡ length (map name_key (n ∷ ns)) = ap length h in
-    absurd (omega (arith, l, k, length-map rows (row_key m)))
+-- a step stays within a list
+pub step_within : (o : Option Named) (i n r : ℕ) → i ≤ n → IfSome o (λ (x : Named). i < n) → r ≤ 1
+    → IfNone o (r ≡ 0) → i + r ≤ n
+step_within None i n r h k l e = omega (arith, h, e)
+step_within (Some x) i n r h k l e = omega (arith, k, l)

@@ -1,4 +1,5 @@
 pub mod Diff
+pub mod Directories
 pub mod Rows
 pub mod Endings
 pub mod Alike

@@ -1,11 +1,16 @@
 //! The first difference of two slices.
 ghost use Rattle.image_compare.specs.Differences.{IsFirstDifference};
 
+use crate::contents::is_same;
+
 /// Returns the first index at which the bytes of two slices differ, or at which exactly one of them
 /// has ended. Returns `None` if they are equal.
 pub fn first_difference(a: &[u8], b: &[u8]) -> Option<usize>
     ensures { IsFirstDifference a.now b.now result }
 {
+    if is_same(a, b) {
+        return None;
+    }
     let least = a.len().min(b.len());
     let mut at = 0;
     while at < least {
@@ -14,9 +19,5 @@ pub fn first_difference(a: &[u8], b: &[u8]) -> Option<usize>
         }
         at += 1;
     }
-    if a.len() == b.len() {
-        None
-    } else {
-        Some(least)
-    }
+    Some(least)
 }

@@ -7,7 +7,7 @@ ghost use Rattle.rom_tree.specs.Image.{image_node, HasNode, contents_of};
 use rom_tree::{NodeId, Run, TreeImage, bytes_from};
 
 /// Whether two slices are the same.
-fn is_same(one: &[u8], other: &[u8]) -> bool
+pub(crate) fn is_same(one: &[u8], other: &[u8]) -> bool
     ensures { result ≡ bytes_eq one.now other.now }
 {
     one == other

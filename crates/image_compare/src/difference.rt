@@ -1,17 +1,18 @@
 //! The differences of two images.
-ghost use Rattle.std.specs.Prelude.{◌≡◌, ◌+◌, ◌<◌, ◌≤◌, ◌||◌, List, length};
+ghost use Rattle.std.specs.Prelude.{◌≡◌, ◌||◌, ◌⊎◌, IsNone, IsSome, List};
 ghost use Rattle.std.specs.Bool.{OnTrue, OnFalse};
 ghost use Rattle.rom_tree.specs.Tree.{IsShallow};
 ghost use Rattle.rom_tree.specs.Names.{Name};
 ghost use Rattle.image_check.specs.Any.{any_view};
 ghost use Rattle.image_compare.specs.Diff.{names_lines};
 ghost use Rattle.image_compare.specs.Endings.{DiffEnds, WritesLines};
-ghost use Rattle.image_compare.specs.Rows.{AreKnown, AreRows};
+ghost use Rattle.image_compare.specs.Rows.{AreKnown, HasNames};
 ghost use Rattle.image_compare.specs.Same.{AreSame};
 
-use crate::rows::{NoRows, Row, rows_of};
+use crate::rows::{NoRows, Rows, name_at, rows_of};
 use crate::same::Same;
-use crate::steps::put_step;
+use crate::steps::{Named, put_step};
+use arrayvec::ArrayVec;
 use image_check::AnyImage;
 use rom_fields::{ByteWrite, Failed};
 use std::alloc::Global;
@@ -31,12 +32,16 @@ pub enum DiffError {
     WriteFault,
 }
 
-/// Whether no row of either list is left.
-fn are_over(xs: &[Row], ys: &[Row]) -> bool
-    ensures over { OnTrue result (length xs.now + length ys.now ≡ 0) }
-    ensures left { OnFalse result (0 < length xs.now + length ys.now) }
+/// Whether neither list has a next name.
+fn are_over(x: Option<Named<'_>>, y: Option<Named<'_>>) -> bool
+    ensures old { OnTrue result (IsNone x.entry) }
+    ensures new { OnTrue result (IsNone y.entry) }
+    ensures left { OnFalse result (IsSome x.entry ⊎ IsSome y.entry) }
 {
-    xs.is_empty() && ys.is_empty()
+    match (x, y) {
+        (None, None) => true,
+        _ => false,
+    }
 }
 
 /// Whether at least one of two is true.
@@ -52,27 +57,30 @@ fn write_lines<W: ByteWrite>(
     new: &AnyImage<'_>,
     same: &mut Same,
     places: bool,
-    xs: &[Row],
-    ys: &[Row],
+    xs: &Rows<'_>,
+    ys: &Rows<'_>,
     w: &mut W,
 ) -> Result<bool, Failed>
     requires old { AreKnown (any_view old.now) xs.now }
     requires new { AreKnown (any_view new.now) ys.now }
     requires same { AreSame (any_view old.now) (any_view new.now) same.old }
-    ensures { (ps qs : List Name) → AreRows (any_view old.now) xs.now ps
-        → AreRows (any_view new.now) ys.now qs
+    ensures { (ps qs : List Name) → HasNames (any_view old.now) xs.now ps
+        → HasNames (any_view new.now) ys.now qs
         → WritesLines (W.output w.old) (W.output w.new)
         (names_lines places (any_view old.now).bytes (any_view new.now).bytes ps qs) result }
 {
+    let (mut old_path, mut new_path) = (ArrayVec::new(), ArrayVec::new());
     let mut printed = false;
     let mut failed = false;
     let mut i = 0;
     let mut j = 0;
     while !failed {
-        if are_over(&xs[i..], &ys[j..]) {
+        let x = name_at(xs, i, &mut old_path);
+        let y = name_at(ys, j, &mut new_path);
+        if are_over(x, y) {
             return Ok(printed);
         }
-        let step = put_step(old, new, same, places, w, &mut failed, &xs[i..], &ys[j..]);
+        let step = put_step(old, new, same, places, w, &mut failed, x, y);
         i += step.old;
         j += step.new;
         printed = either(printed, step.printed);
@@ -121,7 +129,7 @@ pub fn write_diff<W: ByteWrite>(
         Err(NoRows::LongPath) => return Err(DiffError::LongPath),
     };
     let mut same = Same::new(alloc, old, new);
-    match write_lines(old, new, &mut same, places, xs.as_slice(), ys.as_slice(), w) {
+    match write_lines(old, new, &mut same, places, &xs, &ys, w) {
         Ok(printed) => Ok(printed),
         Err(_) => Err(DiffError::WriteFault),
     }

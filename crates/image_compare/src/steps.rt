@@ -1,17 +1,25 @@
 //! The lines of the next names of two lists.
-ghost use Rattle.std.specs.Prelude.{◌≡◌, ◌+◌, ◌<◌, ◌≤◌, ◌∷◌, List, Some, length};
+ghost use Rattle.std.specs.Prelude.{◌≡◌, ◌+◌, ◌<◌, ◌≤◌, ◌∷◌, List, Some, IfNone, IsSome, ◌⊎◌};
 ghost use Rattle.rom_fields.specs.Written.{sink};
 ghost use Rattle.rom_tree.specs.Image.{image_node, HasNode};
 ghost use Rattle.rom_tree.specs.Names.{Name};
 ghost use Rattle.image_check.specs.Any.{any_view};
-ghost use Rattle.image_compare.specs.Rows.{AreKnown, AreRows, StepPuts};
+ghost use Rattle.image_compare.specs.Rows.{IsNext, StepPuts};
 ghost use Rattle.image_compare.specs.Same.{AreSame};
 
 use crate::lines::{put_added, put_nodes, put_removed};
-use crate::rows::{Row, is_before};
+use crate::order::is_before;
 use crate::same::Same;
 use image_check::AnyImage;
 use rom_fields::ByteWrite;
+use rom_tree::NodeId;
+
+/// A name of an image: its path, and the node to which it leads.
+#[derive(Clone, Copy)]
+pub(crate) struct Named<'p> {
+    pub(crate) path: &'p [u8],
+    pub(crate) node: NodeId,
+}
 
 /// The number of names that a step used of each list, and whether it put a line.
 #[derive(Clone, Copy)]
@@ -43,32 +51,32 @@ fn put_lesser<W: ByteWrite>(
     places: bool,
     w: &mut W,
     failed: &mut bool,
-    x: &Row,
-    y: &Row,
+    x: Named<'_>,
+    y: Named<'_>,
 ) -> Step
-    requires old { HasNode (any_view old.now) x.now.node.0 }
-    requires new { HasNode (any_view new.now) y.now.node.0 }
+    requires old { HasNode (any_view old.now) x.node.0 }
+    requires new { HasNode (any_view new.now) y.node.0 }
     requires same { AreSame (any_view old.now) (any_view new.now) same.old }
     ensures same { AreSame (any_view old.now) (any_view new.now) same.new }
-    ensures puts { (p q : Name) (ps qs : List Name) → x.now.path.items ≡ p.path
-        → image_node (any_view old.now) x.now.node.0 ≡ Some p.node
-        → y.now.path.items ≡ q.path → image_node (any_view new.now) y.now.node.0 ≡ Some q.node
+    ensures puts { (p q : Name) (ps qs : List Name) → x.entry.path.now ≡ p.path
+        → image_node (any_view old.now) x.entry.node.0 ≡ Some p.node
+        → y.entry.path.now ≡ q.path → image_node (any_view new.now) y.entry.node.0 ≡ Some q.node
         → StepPuts (sink (W.output w.old) failed.old) (sink (W.output w.new) failed.new) places
         (any_view old.now).bytes (any_view new.now).bytes (p ∷ ps) (q ∷ qs) result }
     ensures old_one { result.old ≤ 1 }
     ensures new_one { result.new ≤ 1 }
     ensures some { 0 < result.old + result.new }
 {
-    if is_before(x.path.as_slice(), y.path.as_slice()) {
-        put_removed(w, failed, x.path.as_slice());
+    if is_before(x.path, y.path) {
+        put_removed(w, failed, x.path);
         return REMOVED;
     }
-    if is_before(y.path.as_slice(), x.path.as_slice()) {
-        put_added(w, failed, y.path.as_slice());
+    if is_before(y.path, x.path) {
+        put_added(w, failed, y.path);
         return ADDED;
     }
     let nodes = (x.node, y.node);
-    let printed = put_nodes(old, new, same, places, w, failed, x.path.as_slice(), nodes);
+    let printed = put_nodes(old, new, same, places, w, failed, x.path, nodes);
     Step {
         old: 1,
         new: 1,
@@ -76,7 +84,7 @@ fn put_lesser<W: ByteWrite>(
     }
 }
 
-/// Puts the lines of the next names of both lists, at least one of which is not empty.
+/// Puts the lines of the next names of both lists, at least one of which has one.
 pub(crate) fn put_step<W: ByteWrite>(
     old: &AnyImage<'_>,
     new: &AnyImage<'_>,
@@ -84,32 +92,34 @@ pub(crate) fn put_step<W: ByteWrite>(
     places: bool,
     w: &mut W,
     failed: &mut bool,
-    xs: &[Row],
-    ys: &[Row],
+    x: Option<Named<'_>>,
+    y: Option<Named<'_>>,
 ) -> Step
-    requires old { AreKnown (any_view old.now) xs.now }
-    requires new { AreKnown (any_view new.now) ys.now }
-    requires some { 0 < length xs.now + length ys.now }
+    requires old { (ps : List Name) × IsNext (any_view old.now) x ps }
+    requires new { (qs : List Name) × IsNext (any_view new.now) y qs }
+    requires some { IsSome x ⊎ IsSome y }
     requires same { AreSame (any_view old.now) (any_view new.now) same.old }
     ensures same { AreSame (any_view old.now) (any_view new.now) same.new }
-    ensures puts { (ps qs : List Name) → AreRows (any_view old.now) xs.now ps
-        → AreRows (any_view new.now) ys.now qs
+    ensures puts { (ps qs : List Name) → IsNext (any_view old.now) x.entry ps
+        → IsNext (any_view new.now) y.entry qs
         → StepPuts (sink (W.output w.old) failed.old) (sink (W.output w.new) failed.new) places
         (any_view old.now).bytes (any_view new.now).bytes ps qs result }
-    ensures within_old { result.old ≤ length xs.now }
-    ensures within_new { result.new ≤ length ys.now }
+    ensures old_one { result.old ≤ 1 }
+    ensures new_one { result.new ≤ 1 }
+    ensures old_none { IfNone x.entry (result.old ≡ 0) }
+    ensures new_none { IfNone y.entry (result.new ≡ 0) }
     ensures some { 0 < result.old + result.new }
 {
-    match (xs, ys) {
-        ([x, ..], [y, ..]) => put_lesser(old, new, same, places, w, failed, x, y),
-        ([x, ..], []) => {
-            put_removed(w, failed, x.path.as_slice());
+    match (x, y) {
+        (Some(x), Some(y)) => put_lesser(old, new, same, places, w, failed, x, y),
+        (Some(x), None) => {
+            put_removed(w, failed, x.path);
             REMOVED
         }
-        ([], [y, ..]) => {
-            put_added(w, failed, y.path.as_slice());
+        (None, Some(y)) => {
+            put_added(w, failed, y.path);
             ADDED
         }
-        ([], []) => ADDED,
+        (None, None) => ADDED,
     }
 }

@@ -22,3 +22,4 @@ pub mod Complete
 pub mod Having
 pub mod RomfsComplete
 pub mod MapLines
+pub mod Parts

@@ -7,4 +7,5 @@ pub mod Apart
 pub mod Which
 pub mod Ranges
 pub mod Owned
+pub mod Parts
 pub mod Complete

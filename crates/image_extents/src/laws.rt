@@ -9,6 +9,7 @@ ghost use Rattle.image_extents.specs.Complete.{IsPlain};
 ghost use Rattle.image_extents.specs.Lines.{extents_text, line_of, owners};
 ghost use Rattle.image_extents.specs.Found.{table_in};
 ghost use Rattle.image_extents.specs.Owned.{AreOfFiles, HasOwners};
+ghost use Rattle.image_extents.specs.Parts.{IsCramfsPart, IsRomfsPart};
 ghost use Rattle.image_extents.specs.Ranges.{ShareOut};
 ghost use Rattle.image_extents.specs.Sorted.{AreCramfs, AreRomfs};
 ghost use Rattle.image_extents.specs.declared.extent.Extent.{Extent};
@@ -39,6 +40,16 @@ pub fn data_are_of_files()
     ensures cramfs { (o : Order) (all : List ℕ) (e : Extents) (h : HoldsCramfs o all)
         → AreCramfs o (cramfs_accessible o all) e
         → AreOfFiles (cramfs_tree_of o (cramfs_accessible o all) h.forest) e }
+{}
+
+/// States what an extent is, by its kind: the superblock belongs to the root; a header, a list and
+/// block pointers are those of the extent's record, at the offset and with the length that the
+/// format gives them, and data belong to a record that has contents.
+pub fn extents_are_parts()
+    ensures romfs { (b : List ℕ) (r : ℕ) (e : Extents) → AreRomfs b r e
+        → All (λ (x : Extent). IsRomfsPart b r e x x.kind) e.extents.items }
+    ensures cramfs { (o : Order) (b : List ℕ) (e : Extents) → AreCramfs o b e
+        → All (λ (x : Extent). IsCramfsPart o b e x x.kind) e.extents.items }
 {}
 
 /// States which records have the bytes of an extent in a checked cramfs image: if the extent's

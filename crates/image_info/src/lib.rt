@@ -1,22 +1,32 @@
-//! What an image is and where its bytes are. `write_info` writes the facts of a valid image, a line
-//! for each fact; `volume` returns the name of its volume. `count_gaps` counts the accessible bytes
-//! that are in none of its extents. `map` writes the offsets of each regular file, a line for each
-//! run of consecutive bytes, in the list's order. `cat` writes the bytes of a file.
+//! What an image is and where its bytes are. `Numbers` is the description of a checked image: 48
+//! bytes, from which the library for C opens the same bytes without a check.
 //!
-//! Proved: `write_info` writes exactly the text of `specs/Info.antt`, `map` that of
-//! `specs/Map.antt`, and `cat` exactly a file's bytes; or a prefix of it if the writer failed, or
-//! nothing if memory was refused. `count_gaps` returns exactly the number that `specs/Gaps.antt`
-//! defines, over the extents that a check tests for overlaps (`laws::of_the_tree`). `laws` also has
-//! what a reader needs to know of runs. `map` and `cat` allocate no memory. `data_of` returns two
-//! numbers that say where a node's bytes are (`specs/Data.antt`): nodes with equal ones share them.
+//! `specs/Info.antt` has the text of `info`, `specs/Map.antt` that of `map`, `specs/Gaps.antt` the
+//! bytes in no extent, `specs/Data.antt` where a node's bytes are, and `specs/Description.antt` a
+//! description.
+//!
+//! Proved:
+//!
+//! - `write_info`, `map`, `cat`: `info` has exactly one line for each fact, `map` one for each run
+//!   of each regular file in the order of the list, and `cat` writes exactly a file's bytes. If a
+//!   write fails, a prefix is written; if memory is refused, `info` writes nothing. (`map` and
+//!   `cat` allocate none.)
+//! - `volume`: the volume name.
+//! - `laws::runs_are_the_file`: the runs of a file, joined, are its offsets in order; in the file
+//!   each begins where the one before it ends, in the image no two successive runs adjoin, and no
+//!   other list of runs is so.
+//! - `laws::runs_are_its_bytes`: the image's bytes in a run are the file's.
+//! - `data_of`: where the bytes of a node are, by two numbers: where they or their block pointers
+//!   begin, and how many they are. Nodes with equal ones share their bytes.
+//! - `count_gaps`, `laws::of_the_tree`: the number of accessible bytes that are in none of the
+//!   image's extents, each byte counted once; these are the extents of its tree.
+//! - `Numbers::of`: the numbers of a checked image: format, accessible bytes, root, references,
+//!   depth.
+//! - `write_numbers`, `write_number_array`: its description, as 48 bytes or as an array of C, or a
+//!   prefix of it if a write failed.
 //!
 //! A caller of `map`, proved: library_tests/src/examples/mapped.rt. `cat` requires the number of a
 //! node of the image, which `path_walk::walk` returns.
-//!
-//! `Numbers` is the description of a checked image: 48 bytes, from which the library for C opens
-//! the same bytes without a check. Proved: the numbers are those of the image's tree, and what is
-//! written is exactly the description of `specs/Description.antt`, as bytes or as an array of C, or
-//! a prefix of it if a write failed.
 #![tactic(auto)]
 
 mod by_format;

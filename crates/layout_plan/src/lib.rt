@@ -1,13 +1,14 @@
-//! The plan of an image. `plan` returns, from a manifest and the sizes of its sources, the offsets
-//! of all that the image holds in a format, or the least misfit. The crate re-exports `Sources` and
-//! `Slices`.
+//! The plan of an image, from a manifest and the sizes of its sources: nothing is written, and no
+//! content is read. `manifest_layout` defines misfits and layouts, and `plan_types` the plan. The
+//! crate re-exports `Sources` and `Slices`.
 //!
-//! Proved: a manifest is refused exactly if it has a misfit, and with the least one, unless memory
-//! was refused. Otherwise its plan has the items, the sections and the length of the layout, in
-//! each format. `manifest_layout` defines misfits and layouts, and `plan_types` the plan. Nothing
-//! is written, and no content is read.
+//! Proved:
 //!
-//! `misfits` returns all misfits of the lines, for people who mend them at once.
+//! - `plan`: a manifest is refused exactly if it has a misfit, with the least one, unless memory
+//!   was refused. Otherwise its plan has the items, the sections and the length of the layout, in
+//!   each of the three formats.
+//! - `misfits`: the misfits of all lines, for people who fix them at once.
+//! - `name`: each refusal has its name.
 //!
 //! A caller, proved: library_tests/src/examples/planned.rt. `plan` requires as many sizes as the
 //! manifest has sources.

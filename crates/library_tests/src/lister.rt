@@ -6,7 +6,7 @@ ghost use Rattle.directory_walk.specs.Trees.{name};
 ghost use Rattle.directory_walk.specs.Views.{listed_names, names_of};
 
 use build_commands::{Recheck, scan_directory};
-use directory_walk::{Directory, Listed, Lister, WalkError, Walked, walk};
+use directory_walk::{Directory, Listed, Lister, Refusal, WalkError, Walked, walk};
 use rom_fields::Plain;
 use std::alloc::{AllocError, Global};
 use std::test::Fail;
@@ -76,6 +76,45 @@ impl Lister for Fixed {
     }
 }
 
+/// Why a directory is not listed.
+#[derive(Drop)]
+enum Unlisted {
+    OutOfMemory,
+    /// It may not be read.
+    Denied,
+}
+
+/// The same lister, except that `a` may not be read.
+#[derive(Drop)]
+struct Closed {
+    all: Fixed,
+}
+
+impl Lister for Closed {
+    ghost use Rattle.std.specs.Prelude.{◌≡◌, None, codes};
+    ghost use Rattle.library_tests.specs.declared.lister.Unlisted.TheVariants.{Denied};
+
+    type Known = bool;
+
+    type State = ();
+
+    type Error = Unlisted;
+
+    ghost tree = { λ _. None };
+
+    ghost refuses = { λ _ path e. e ≡ Denied → path ≡ codes "t/a" };
+
+    fn list(&mut self, directory: &Directory<()>) -> Result<Vec<Listed<bool, ()>>, Unlisted> {
+        if directory.path.as_str() == "t/a" {
+            return Err(Unlisted::Denied);
+        }
+        match self.all.list(directory) {
+            Ok(listed) => Ok(listed),
+            Err(AllocError) => Err(Unlisted::OutOfMemory),
+        }
+    }
+}
+
 /// The walk of `t`, which finds exactly these entries.
 fn walked(alloc: Global, top: String) -> Result<Walked<bool, ()>, WalkError<AllocError>>
     requires { string_bytes top ≡ codes "t" }
@@ -95,13 +134,13 @@ fn walked(alloc: Global, top: String) -> Result<Walked<bool, ()>, WalkError<Allo
 struct Stayed(bool);
 
 impl Recheck for Stayed {
-    ghost use Rattle.std.specs.Prelude.{⊤};
+    ghost use Rattle.std.specs.Prelude.{◌≡◌, true, length};
 
     type State = ();
 
     type Error = ();
 
-    ghost as_found = { λ _ _. ⊤ };
+    ghost as_found = { λ s directories. (s.0 ≡ true) × (length directories ≡ 2) };
 
     fn check(&mut self, directories: &[Directory<()>]) -> Result<(), ()> {
         if self.0 && directories.len() == 2 {
@@ -159,4 +198,21 @@ fn entries_of_a_tree_that_is_known(rt: HostRuntime) -> Result<(), Fail> {
         assert!(rt; entry.path.as_str() == *path);
     }
     Ok(())
+}
+
+#[test]
+fn directory_that_may_not_be_read(rt: HostRuntime) -> Result<(), Fail> {
+    let top = Directory {
+        path: String::from_str(rt.alloc(), "t")?,
+        state: (),
+    };
+    let all = Fixed { alloc: rt.alloc() };
+    match walk(rt.alloc(), &mut Closed { all }, top) {
+        Err(WalkError::Refused(Refusal { path, error })) => {
+            assert!(rt; path.as_str() == "t/a");
+            assert!(rt; matches!(error, Unlisted::Denied));
+            Ok(())
+        }
+        _ => Err(Fail::new("a refusal")),
+    }
 }

@@ -1,5 +1,5 @@
 -- What a map has of the first file of each table, while names are gone over.
-use Rattle.std.proofs.Common.{◌≡◌, ◌≢◌, ◌==◌, ◌&&◌, cond, not, ℕ, true, false, Bool, Option, Some, None, inl, inr, refl}
+use Rattle.std.proofs.Common.{◌≡◌, ◌≢◌, ◌==◌, ◌&&◌, cond, ℕ, true, false, Bool, Option, Some, None, inl, inr, refl}
 use Rattle.std.proofs.Common.{sym, ap, ◌∙◌, arith, List, [], ◌∷◌}
 use Rattle.std.proofs.lemmas.Bool.{cases_lt, lt-ltb, le-ltb, true≢false, ne_eqb}
 use Rattle.std.proofs.lemmas.Bool.Decides.{eqb_tells}
@@ -9,9 +9,9 @@ use Rattle.std.specs.Option.{is_some}
 use Rattle.rom_tree.specs.Tree.{Node, ino_of}
 use Rattle.rom_tree.specs.Names.{Name}
 use Rattle.cramfs_image.specs.declared.image.Cramfs.{Cramfs}
-use Rattle.linux_misreads.specs.declared.known.Known.{Known}
-use Rattle.linux_misreads.specs.Tables.{has_table, number_in, known_of, either, one_known, first_known, is_same}
-use Rattle.linux_misreads.specs.Tables.{is_other_file, AreFirst}
+use Rattle.linux_misreads.specs.declared.seen.Known.{Known}
+use Rattle.linux_misreads.specs.Tables.{has_table, number_in, known_of, either, one_known, first_known}
+use Rattle.linux_misreads.specs.Tables.{kept_in, AreFirst}
 
 at_is : (p q : ℕ) → is_at (nat_cmp p) q ≡ (p == q)
 at_is p q =
@@ -110,24 +110,15 @@ all_firsts s m all ns e h t =
     whole None = refl
     whole (Some k) = refl
 
--- a node whose table the map has
-pub other_file : (s : Cramfs) (ns : List Name) (m : BTreeMap ℕ Known) (x : Node) (p : ℕ) (kept own : Known)
-    (same : Bool) → AreFirst s ns m → has_table x ≡ true
-    → p ≡ number_in s (ino_of x) → get nat_cmp m p ≡ Some kept → own ≡ known_of x → same ≡ is_same kept own
-    → not same ≡ is_other_file s ns x
-other_file s ns m x p kept own same a h e g o i =
-    let f : first_known s (number_in s (ino_of x)) ns ≡ Some kept =
-    sym (a (number_in s (ino_of x))) ∙ (ap (get nat_cmp m) (sym e) ∙ g) in
-    rw (h, f, i, o) refl
+-- nothing is kept of a node without a table
+pub none_kept : (s : Cramfs) (ns : List Name) (x : Node) → has_table x ≡ false → None ≡ kept_in s ns x
+none_kept s ns x h = rw h refl
 
-pub no_other_file : (s : Cramfs) (ns : List Name) (m : BTreeMap ℕ Known) (x : Node) (p : ℕ) → AreFirst s ns m
-    → p ≡ number_in s (ino_of x) → get nat_cmp m p ≡ None
-    → false ≡ is_other_file s ns x
-no_other_file s ns m x p a e g =
-    let f : first_known s (number_in s (ino_of x)) ns ≡ None =
-    sym (a (number_in s (ino_of x))) ∙ (ap (get nat_cmp m) (sym e) ∙ g) in
-    rw f (last (has_table x))
-  where
-    last : (b : Bool) → false ≡ (b && false)
-    last true = refl
-    last false = refl
+-- what the map has under the number of a node with a table
+pub kept_is : (s : Cramfs) (ns : List Name) (m : BTreeMap ℕ Known) (x : Node) (p : ℕ) {v : Option Known}
+    → AreFirst s ns m → has_table x ≡ true
+    → p ≡ number_in s (ino_of x) → get nat_cmp m p ≡ v → v ≡ kept_in s ns x
+kept_is s ns m x p {v} a h e g =
+    let f : v ≡ first_known s (number_in s (ino_of x)) ns =
+    sym g ∙ (ap (get nat_cmp m) e ∙ a (number_in s (ino_of x))) in
+    rw h f

@@ -1,3 +1,5 @@
 pub mod Walked
 pub mod Firsts
 pub mod Printed
+pub mod Alike
+pub mod Devices

@@ -1,4 +1,5 @@
 pub mod Readers
+pub mod Seen
 pub mod Tables
 pub mod Differences
 pub mod Misreads

@@ -1,91 +1,72 @@
 -- `misreads_text`: a line for each thing that Linux misreads in a valid image. `Prints`: lines were
 -- put, and the result says whether there is any. (The lines are this project's own; docs/LINUX.md
 -- has what was seen. Linux fs/romfs/super.c and fs/cramfs/inode.c.)
-use Rattle.std.specs.Prelude.{ℕ, Bool, true, false, ◌&&◌, ◌||◌, ◌≡◌, ◌==◌, ◌%◌, nat_lt, not}
-use Rattle.std.specs.Prelude.{if◌then◌else◌, List, [], ◌∷◌, ◌++◌, length, codes}
+use Rattle.std.specs.Prelude.{Bool, true, false, ◌||◌, ◌≡◌, ℕ, if◌then◌else◌, List, [], ◌∷◌, ◌++◌}
+use Rattle.std.specs.Prelude.{codes}
 use Rattle.std.specs.List.{flat_map}
 use Rattle.rom_fields.specs.Texts.{escaped}
 use Rattle.rom_fields.specs.Written.{Sink, Puts}
-use Rattle.rom_tree.specs.Tree.{Node, ino_of, is_regular, places_of}
+use Rattle.rom_tree.specs.Tree.{Node, ino_of}
 use Rattle.rom_tree.specs.Names.{Name, names}
 use Rattle.romfs_image.specs.declared.image.Romfs.{Romfs as RomfsImage}
+use Rattle.cramfs_format.specs.Inode.{name_room}
 use Rattle.cramfs_image.specs.declared.image.Cramfs.{Cramfs}
 use Rattle.cramfs_image.specs.Reported.{order_in}
 use Rattle.image_check.specs.declared.any.AnyImage.{AnyImage}
 use Rattle.image_check.specs.declared.any.AnyImage.TheVariants.{Romfs, Cramfs as InCramfs}
 use Rattle.image_check.specs.Any.{any_view}
 use Rattle.image_info.specs.Volumes.{romfs_volume}
-use Rattle.linux_misreads.specs.Readers.{romfs_device, cramfs_device, romfs_finds}
-use Rattle.linux_misreads.specs.Tables.{is_other_file, romfs_view, view}
-use Rattle.linux_misreads.specs.Differences.{is_other_device, is_cut_link, is_cut_name}
-use Rattle.linux_misreads.specs.Differences.{is_read_elsewhere, is_root_missed, is_not_found}
-use Rattle.linux_misreads.specs.Differences.{is_other_root}
+use Rattle.linux_misreads.specs.Readers.{romfs_device, cramfs_device}
+use Rattle.linux_misreads.specs.Seen.{romfs_place, seen_of, text_in}
+use Rattle.linux_misreads.specs.Tables.{kept_in, romfs_view, view}
+use Rattle.linux_misreads.specs.Differences.{is_root_missed, cramfs_misreads, romfs_misreads}
+use Rattle.linux_misreads.specs.declared.judged.CramfsMisreads.{CramfsMisreads}
+use Rattle.linux_misreads.specs.declared.judged.RomfsMisreads.{RomfsMisreads}
 
 -- a text, PATH (escaped) and a line feed
 abbrev pub misread_line : List ℕ → List ℕ → List ℕ
 misread_line text path = text ++ (escaped path ++ 10 ∷ [])
 
--- a file that is not empty and ends with a whole block: cramfs reads its last block as zeros
-abbrev pub ends_with_a_block : Node → Bool
-ends_with_a_block x =
-    is_regular x && (nat_lt 0 (length (places_of x)) && length (places_of x) % 4096 == 0)
+-- the line of something that is misread
+abbrev pub line_if : Bool → List ℕ → List ℕ → List ℕ
+line_if is text path = if is then misread_line text path else []
 
-abbrev pub block_line : Name → List ℕ
-block_line n =
-    if ends_with_a_block n.node then misread_line (codes "linux 1 LastBlock ") n.path else []
+-- the lines of a name at this path
+abbrev pub romfs_lines : List ℕ → RomfsMisreads → List ℕ
+romfs_lines path m =
+    line_if m.name_cut (codes "linux 3 NameCut ") path
+    ++ (line_if m.name_too_long (codes "linux 4 NameTooLong ") path
+    ++ (line_if m.device (codes "linux 6 Device ") path
+    ++ (line_if m.link_cut (codes "linux 8 LinkCut ") path
+    ++ line_if m.other_place (codes "linux 10 OtherPlace ") path)))
 
--- the line of a file that is taken for another one among these names of an image
-abbrev pub table_line : Cramfs → List Name → Name → List ℕ
-table_line s ns n =
-    if is_other_file s ns n.node then misread_line (codes "linux 2 SharedTable ") n.path else []
+abbrev pub cramfs_lines : List ℕ → CramfsMisreads → List ℕ
+cramfs_lines path m =
+    line_if m.last_block (codes "linux 1 LastBlock ") path
+    ++ (line_if m.shared_table (codes "linux 2 SharedTable ") path
+    ++ (line_if m.device (codes "linux 6 Device ") path
+    ++ (line_if m.name_padded (codes "linux 7 NamePadded ") path
+    ++ (line_if m.link_cut (codes "linux 8 LinkCut ") path
+    ++ line_if m.root_mode (codes "linux 9 RootMode ") path))))
 
--- a device that has other numbers than the one of this number
-abbrev pub device_line : ℕ → Name → List ℕ
-device_line number n =
-    if is_other_device number n.node then misread_line (codes "linux 6 Device ") n.path else []
+-- what is misread in the node that this name, the last of its path, leads to in a romfs image
+abbrev pub in_romfs : RomfsImage → List ℕ → Node → RomfsMisreads
+in_romfs s name x =
+    romfs_misreads name (text_in (romfs_view s).bytes x)
+    (seen_of (romfs_device (romfs_view s).bytes (ino_of x)) x) (romfs_place (romfs_view s).bytes x)
 
--- a name of cramfs that is listed, but not found
-abbrev pub found_line : Cramfs → Name → List ℕ
-found_line s n =
-    if is_not_found s n.last n.node then misread_line (codes "linux 7 NamePadded ") n.path else []
-
--- a link of an image of these bytes
-abbrev pub link_line : List ℕ → Name → List ℕ
-link_line b n = if is_cut_link b n.node then misread_line (codes "linux 8 LinkCut ") n.path else []
-
--- the root of cramfs
-abbrev pub root_line : Name → List ℕ
-root_line n =
-    if is_other_root n.last n.node then misread_line (codes "linux 9 RootMode ") n.path else []
-
--- a file or a link of romfs that is found, and whose own record has a long name: it is read from
--- another offset
-abbrev pub place_line : List ℕ → Name → List ℕ
-place_line b n = if is_read_elsewhere b n.last n.node
-    then misread_line (codes "linux 10 OtherPlace ") n.path else []
-
--- a name of romfs that is found, but of which fewer bytes are listed
-abbrev pub cut_line : Name → List ℕ
-cut_line n = if is_cut_name n.last then misread_line (codes "linux 3 NameCut ") n.path else []
-
--- a name of romfs that is not found
-abbrev pub long_line : Name → List ℕ
-long_line n =
-    if not (romfs_finds n.last) then misread_line (codes "linux 4 NameTooLong ") n.path else []
+-- the same in a cramfs image, whose names are these
+abbrev pub in_cramfs : Cramfs → List Name → List ℕ → Node → CramfsMisreads
+in_cramfs s ns name x =
+    cramfs_misreads name (text_in (view s).bytes x)
+    (seen_of (cramfs_device (order_in s) (view s).bytes (ino_of x)) x)
+    (name_room (order_in s) (view s).bytes (ino_of x)) (kept_in s ns x)
 
 abbrev pub cramfs_name : Cramfs → List Name → Name → List ℕ
-cramfs_name s ns n =
-    block_line n
-    ++ (table_line s ns n
-    ++ (device_line (cramfs_device (order_in s) (view s).bytes (ino_of n.node)) n
-    ++ (found_line s n ++ (link_line (view s).bytes n ++ root_line n))))
+cramfs_name s ns n = cramfs_lines n.path (in_cramfs s ns n.last n.node)
 
 abbrev pub romfs_name : RomfsImage → Name → List ℕ
-romfs_name s n =
-    cut_line n
-    ++ (long_line n
-    ++ (device_line (romfs_device (romfs_view s).bytes (ino_of n.node)) n
-    ++ (link_line (romfs_view s).bytes n ++ place_line (romfs_view s).bytes n)))
+romfs_name s n = romfs_lines n.path (in_romfs s n.last n.node)
 
 -- the lines of a name of this image
 abbrev pub name_misreads : AnyImage → Name → List ℕ

@@ -1,14 +1,13 @@
--- `is_other_file`: Linux has another file under the number that it gives to a node. `AreFirst`: a
--- map has the first file of each number. (Linux fs/cramfs/inode.c, `cramino` and
--- `get_cramfs_inode`.)
+-- `kept_in`: what Linux keeps under the number that it gives to a node. `AreFirst`: a map has the
+-- first file of each number. (Linux fs/cramfs/inode.c, `cramino` and `get_cramfs_inode`.)
 --
 -- Linux's cramfs numbers a file or a link that is not empty by the offset of its table. It keeps
 -- one file of each number, the first that is looked up.
-use Rattle.std.specs.Prelude.{◌≡◌, ℕ, ◌==◌, ◌&&◌, ◌||◌, nat_lt, not, Bool, false, if◌then◌else◌}
+use Rattle.std.specs.Prelude.{◌≡◌, ℕ, ◌==◌, ◌&&◌, ◌||◌, nat_lt, Bool, if◌then◌else◌}
 use Rattle.std.specs.Prelude.{List, [], ◌∷◌, length, Option, Some, None}
 use Rattle.std.specs.BTreeMap.{BTreeMap, get}
 use Rattle.std.specs.Ordering.{nat_cmp}
-use Rattle.rom_tree.specs.Tree.{Node, attributes_of, ino_of, is_link, is_regular, places_of}
+use Rattle.rom_tree.specs.Tree.{Node, ino_of, is_link, is_regular, places_of}
 use Rattle.rom_tree.specs.Image.{Image}
 use Rattle.rom_tree.specs.Names.{Name, names}
 use Rattle.cramfs_image.specs.Reported.{order_in}
@@ -18,7 +17,8 @@ use Rattle.image_check.specs.declared.any.AnyImage.{AnyImage}
 use Rattle.image_check.specs.declared.any.AnyImage.TheVariants.{Romfs, Cramfs as InCramfs}
 use Rattle.image_check.specs.Any.{any_view}
 use Rattle.linux_misreads.specs.Readers.{file_number}
-use Rattle.linux_misreads.specs.declared.known.Known.{Known}
+use Rattle.linux_misreads.specs.Seen.{known_by, seen_of}
+use Rattle.linux_misreads.specs.declared.seen.Known.{Known}
 
 -- a cramfs image, as the layers above see it
 abbrev pub view : Cramfs → Image
@@ -38,18 +38,7 @@ number_in s n = file_number (order_in s) (view s).bytes n
 
 -- the facts that are kept of a node
 abbrev pub known_of : Node → Known
-known_of x = record {
-  link = is_link x;
-  mode = (attributes_of x).mode;
-  uid = (attributes_of x).uid;
-  gid = (attributes_of x).gid;
-  size = length (places_of x);
-}
-
-abbrev pub is_same : Known → Known → Bool
-is_same a b =
-    (if a.link then b.link else not b.link)
-    && ((a.mode == b.mode) && ((a.uid == b.uid) && ((a.gid == b.gid) && (a.size == b.size))))
+known_of x = known_by (seen_of 0 x)
 
 -- the first of the two, or the second if there is no first
 abbrev pub either : {A : Type 0} → Option A → Option A → Option A
@@ -65,15 +54,10 @@ abbrev pub first_known : Cramfs → ℕ → List Name → Option Known
 first_known s t [] = None
 first_known s t (n ∷ ns) = either (one_known s t n.node) (first_known s t ns)
 
-abbrev pub is_other : Known → Option Known → Bool
-is_other k None = false
-is_other k (Some f) = not (is_same f k)
-
--- Linux has another file under the number of this node: the first of these names with its number is
--- not the same
-abbrev pub is_other_file : Cramfs → List Name → Node → Bool
-is_other_file s ns x =
-    has_table x && is_other (known_of x) (first_known s (number_in s (ino_of x)) ns)
+-- the facts that are kept under the number of this node: those of the first of these names with its
+-- number
+abbrev pub kept_in : Cramfs → List Name → Node → Option Known
+kept_in s ns x = if has_table x then first_known s (number_in s (ino_of x)) ns else None
 
 -- a map has, for each number, the facts that are kept of the first of these names
 abbrev pub AreFirst : Cramfs → List Name → BTreeMap ℕ Known → Type 0

@@ -11,8 +11,8 @@ ghost use Rattle.linux_misreads.specs.Misreads.{is_printed, name_misreads, volum
 
 use crate::differences::is_root_missed;
 use crate::files::first_of_tables;
-use crate::known::Known;
 use crate::names::{put_cramfs_name, put_romfs_name};
+use crate::seen::Known;
 use image_check::AnyImage;
 use image_info::volume;
 use rom_fields::{ByteWrite, OutOfMemory, put};

@@ -9,7 +9,8 @@ ghost use Rattle.linux_misreads.specs.Tables.{AreFirst, either, one_known, numbe
 ghost use Rattle.linux_misreads.specs.Tables.{view};
 
 use crate::inodes::{offset_field, size_field, type_field};
-use crate::known::{Known, is_known_by_table, kept_of};
+use crate::known::{is_known_by_table, kept_of};
+use crate::seen::Known;
 use cramfs_image::Cramfs;
 use rom_fields::OutOfMemory;
 use rom_tree::{NodeId, TreeImage, Walk};

@@ -1,35 +1,19 @@
-//! The facts that Linux's cramfs keeps of a file under its number.
+//! The files that Linux's cramfs knows by their tables.
 ghost use Rattle.std.specs.Prelude.{◌≡◌, Some, not, if◌then◌else◌};
 ghost use Rattle.rom_tree.specs.Tree.{Node};
 ghost use Rattle.rom_tree.specs.Image.{image_node, HasNode};
-ghost use Rattle.linux_misreads.specs.Tables.{has_table, is_same, known_of};
+ghost use Rattle.linux_misreads.specs.Differences.{is_other, is_same};
+ghost use Rattle.linux_misreads.specs.Tables.{has_table, known_of as known_node};
 
+use crate::seen::{Known, known_of, seen_at};
 use rom_tree::{NodeId, TreeImage, is_link_at, is_regular_at};
-
-/// The facts that Linux keeps of a regular file or of a link, and reports for each name with the
-/// same number.
-#[derive(Clone, Copy)]
-pub struct Known {
-    pub link: bool,
-    pub mode: u32,
-    pub uid: u32,
-    pub gid: u32,
-    pub size: u32,
-}
 
 /// The facts that are kept of a node.
 pub(crate) fn kept_of<'a, T: TreeImage<'a>>(image: &T, n: NodeId) -> Known
     requires { HasNode (T.image image.now) n.0 }
-    ensures { (x : Node) → image_node (T.image image.now) n.0 ≡ Some x → result ≡ known_of x }
+    ensures { (x : Node) → image_node (T.image image.now) n.0 ≡ Some x → result ≡ known_node x }
 {
-    let stat = image.stat(n);
-    Known {
-        link: is_link_at(image, n),
-        mode: stat.mode,
-        uid: stat.uid,
-        gid: stat.gid,
-        size: stat.size,
-    }
+    known_of(seen_at(image, n, 0))
 }
 
 /// Whether both are links, or neither is.
@@ -40,11 +24,21 @@ fn are_of_one_kind(a: bool, b: bool) -> bool
 }
 
 /// Whether the facts kept of two files are the same.
-pub(crate) fn is_same_file(a: Known, b: Known) -> bool
+fn is_same_file(a: Known, b: Known) -> bool
     ensures { result ≡ is_same a b }
 {
     are_of_one_kind(a.link, b.link)
         && (a.mode == b.mode && (a.uid == b.uid && (a.gid == b.gid && a.size == b.size)))
+}
+
+/// Whether Linux has other facts under the number of a file.
+pub(crate) fn is_other_file(known: Known, kept: Option<Known>) -> bool
+    ensures { result ≡ is_other known kept }
+{
+    match kept {
+        Some(kept) => !is_same_file(kept, known),
+        None => false,
+    }
 }
 
 /// Whether Linux knows a node by the offset of its table: a regular file or a link that is not

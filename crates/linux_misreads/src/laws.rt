@@ -1,20 +1,23 @@
 //! Laws of the definitions of what Linux misreads.
 ghost use Rattle.std.specs.Prelude.{◌≡◌, ◌≢◌, ◌<◌, ◌≤◌, ◌+◌, ◌*◌, ◌/◌, ◌%◌, ◌^◌, ◌==◌, ◌↔◌, nat_lt};
 ghost use Rattle.std.specs.Prelude.{not, true, ℕ, List, length};
-ghost use Rattle.rom_tree.specs.Tree.{Node, is_regular, places_of};
 ghost use Rattle.romfs_format.specs.Record.{end_of, name_of, pad16};
 ghost use Rattle.cramfs_format.specs.Inode.{block_count, block_len};
 ghost use Rattle.linux_misreads.specs.Readers.{device_number, names_device, old_device, listed_len};
+ghost use Rattle.linux_misreads.specs.Readers.{romfs_device};
 ghost use Rattle.linux_misreads.specs.Readers.{romfs_data, romfs_finds, romfs_root, page_filled};
-ghost use Rattle.linux_misreads.specs.Differences.{is_cut_name};
-ghost use Rattle.linux_misreads.specs.Misreads.{ends_with_a_block};
+ghost use Rattle.linux_misreads.specs.Differences.{ends_with_a_block, is_cut_name};
+ghost use Rattle.linux_misreads.specs.Seen.{is_regular_kind};
+ghost use Rattle.linux_misreads.specs.Tables.{romfs_view};
+ghost use Rattle.linux_misreads.specs.declared.seen.Seen.{Seen};
+ghost use Rattle.rom_tree.specs.Tree.{IsIn, Node, attributes_of, ino_of, is_device, nodes};
+ghost use Rattle.romfs_image.specs.declared.image.Romfs.{Romfs};
 
 /// States that a regular file ends with a whole block exactly if Linux fills some page of it with
 /// another number of bytes than the file has there.
 pub fn last_block()
-    ensures { (x : Node) → is_regular x ≡ true → (ends_with_a_block x ≡ true)
-        ↔ ((i : ℕ) × (i < block_count (length (places_of x)))
-        × (page_filled (length (places_of x)) i ≢ block_len (length (places_of x)) i)) }
+    ensures { (x : Seen) → is_regular_kind x.kind ≡ true → (ends_with_a_block x ≡ true)
+        ↔ ((i : ℕ) × (i < block_count x.size) × (page_filled x.size i ≢ block_len x.size i)) }
 {}
 
 /// States that Linux uses another offset for the root than the one behind the volume's name exactly
@@ -51,4 +54,12 @@ pub fn cramfs_devices()
     ensures { (size : ℕ) → size < 2 ^ 24
         → (names_device (old_device size) (size / 2 ^ 8) (size % 2 ^ 8) ≡ true)
         ↔ (size / 2 ^ 8 < 256) }
+{}
+
+/// States that Linux makes of a device of a romfs image the number of the major and the minor
+/// number that the tree has for it.
+pub fn romfs_device_numbers()
+    ensures { (s : Romfs) (x : Node) → IsIn x (nodes (romfs_view s).tree) → is_device x ≡ true
+        → romfs_device (romfs_view s).bytes (ino_of x)
+        ≡ device_number (attributes_of x).major (attributes_of x).minor }
 {}

@@ -1,25 +1,23 @@
 //! The lines of a name that Linux misreads.
-ghost use Rattle.std.specs.Prelude.{◌≡◌, Some, [], if◌then◌else◌};
+ghost use Rattle.std.specs.Prelude.{◌≡◌, Some};
 ghost use Rattle.rom_fields.specs.Written.{sink};
 ghost use Rattle.rom_tree.specs.Tree.{Node};
 ghost use Rattle.rom_tree.specs.Image.{image_node, HasNode};
 ghost use Rattle.rom_tree.specs.Names.{named, names};
 ghost use Rattle.rom_tree.specs.Walks.{given_path, given_name};
-ghost use Rattle.linux_misreads.specs.Tables.{AreFirst, is_other_file, romfs_view};
-ghost use Rattle.linux_misreads.specs.Tables.{view};
-ghost use Rattle.linux_misreads.specs.Misreads.{cramfs_name, ends_with_a_block, misread_line};
-ghost use Rattle.linux_misreads.specs.Misreads.{romfs_name, Prints};
+ghost use Rattle.linux_misreads.specs.Tables.{AreFirst, kept_in, romfs_view, view};
+ghost use Rattle.linux_misreads.specs.Misreads.{cramfs_lines, cramfs_name, in_cramfs, in_romfs};
+ghost use Rattle.linux_misreads.specs.Misreads.{line_if, romfs_lines, romfs_name, Prints};
 
-use crate::differences::{
-    is_cut_link, is_cut_name, is_not_found, is_other_cramfs_device, is_other_romfs_device,
-    is_other_root, is_read_elsewhere,
-};
 use crate::files::number_of;
-use crate::known::{Known, is_known_by_table, is_same_file, kept_of};
-use crate::readers::romfs_finds;
+use crate::inodes::name_room_at;
+use crate::judged::{CramfsMisreads, RomfsMisreads, cramfs_misreads, romfs_misreads};
+use crate::known::is_known_by_table;
+use crate::nodes::{place_at, seen_in_cramfs, seen_in_romfs};
+use crate::seen::{Known, text_at};
 use cramfs_image::Cramfs;
 use rom_fields::{ByteWrite, put};
-use rom_tree::{NodeId, TreeImage, Walk, is_regular_at};
+use rom_tree::{NodeId, TreeImage, Walk};
 use romfs_image::Romfs;
 use std::collections::BTreeMap;
 
@@ -35,7 +33,7 @@ fn put_line<'a, W: ByteWrite>(
 )
     ensures { Prints (sink (W.output w.old) failed.old) (sink (W.output w.new) failed.new)
         printed.old printed.new
-        (if is_misread then misread_line text.now (given_path walk.now) else []) }
+        (line_if is_misread text.now (given_path walk.now)) }
 {
     if is_misread {
         put(w, failed, text);
@@ -45,32 +43,88 @@ fn put_line<'a, W: ByteWrite>(
     }
 }
 
-/// Whether a file is not empty and ends with a whole block of 4,096 bytes.
-fn is_in_whole_blocks<'a, T: TreeImage<'a>>(image: &T, n: NodeId) -> bool
-    requires { HasNode (T.image image.now) n.0 }
-    ensures { (x : Node) → image_node (T.image image.now) n.0 ≡ Some x
-        → result ≡ ends_with_a_block x }
+/// Puts the lines of what is misread in a name of a romfs image.
+fn put_romfs_lines<'a, W: ByteWrite>(
+    found: RomfsMisreads,
+    w: &mut W,
+    failed: &mut bool,
+    printed: &mut bool,
+    walk: &Walk<'a>,
+)
+    ensures { Prints (sink (W.output w.old) failed.old) (sink (W.output w.new) failed.new)
+        printed.old printed.new (romfs_lines (given_path walk.now) found) }
 {
-    let size = image.stat(n).size;
-    is_regular_at(image, n) && (0 < size && size % 4096 == 0)
+    let (cut, long) = (found.name_cut, found.name_too_long);
+    put_line(cut, b"linux 3 NameCut ", w, failed, printed, walk);
+    put_line(long, b"linux 4 NameTooLong ", w, failed, printed, walk);
+    put_line(found.device, b"linux 6 Device ", w, failed, printed, walk);
+    let (zero, other) = (found.link_cut, found.other_place);
+    put_line(zero, b"linux 8 LinkCut ", w, failed, printed, walk);
+    put_line(other, b"linux 10 OtherPlace ", w, failed, printed, walk);
 }
 
-/// Whether Linux reads another file for a node, because that file has the node's table.
-fn is_taken_for_another(image: &Cramfs<'_>, first: &BTreeMap<u32, Known>, n: NodeId) -> bool
+/// Puts the lines of what is misread in a name of a cramfs image.
+fn put_cramfs_lines<'a, W: ByteWrite>(
+    found: CramfsMisreads,
+    w: &mut W,
+    failed: &mut bool,
+    printed: &mut bool,
+    walk: &Walk<'a>,
+)
+    ensures { Prints (sink (W.output w.old) failed.old) (sink (W.output w.new) failed.new)
+        printed.old printed.new (cramfs_lines (given_path walk.now) found) }
+{
+    let (block, table) = (found.last_block, found.shared_table);
+    put_line(block, b"linux 1 LastBlock ", w, failed, printed, walk);
+    put_line(table, b"linux 2 SharedTable ", w, failed, printed, walk);
+    put_line(found.device, b"linux 6 Device ", w, failed, printed, walk);
+    let (padded, zero, mode) = (found.name_padded, found.link_cut, found.root_mode);
+    put_line(padded, b"linux 7 NamePadded ", w, failed, printed, walk);
+    put_line(zero, b"linux 8 LinkCut ", w, failed, printed, walk);
+    put_line(mode, b"linux 9 RootMode ", w, failed, printed, walk);
+}
+
+/// What Linux keeps of the first file that has the table of a node, if the node has one.
+fn kept_at(image: &Cramfs<'_>, first: &BTreeMap<u32, Known>, n: NodeId) -> Option<Known>
     requires node { HasNode (view image.now) n.0 }
-    requires first { AreFirst image.now
-        (names (view image.now).tree) first.now }
+    requires first { AreFirst image.now (names (view image.now).tree) first.now }
     ensures { (x : Node) → image_node (view image.now) n.0 ≡ Some x
-        → result ≡ is_other_file image.now
-        (names (view image.now).tree) x }
+        → result ≡ kept_in image.now (names (view image.now).tree) x }
 {
     if !is_known_by_table(image, n) {
-        return false;
+        return None;
     }
     match first.get(&number_of(image, n)) {
-        Some(kept) => !is_same_file(*kept, kept_of(image, n)),
-        None => false,
+        Some(kept) => Some(*kept),
+        None => None,
     }
+}
+
+/// What is misread in a name of a romfs image.
+fn found_in_romfs(image: &Romfs<'_>, n: NodeId, name: &[u8]) -> RomfsMisreads
+    requires { HasNode (romfs_view image.now) n.0 }
+    ensures { (x : Node) → image_node (romfs_view image.now) n.0 ≡ Some x
+        → result ≡ in_romfs image.now name.now x }
+{
+    let (text, seen) = (text_at(image, n), seen_in_romfs(image, n));
+    romfs_misreads(name, text, seen, place_at(image, n))
+}
+
+/// What is misread in a name of a cramfs image.
+fn found_in_cramfs(
+    image: &Cramfs<'_>,
+    first: &BTreeMap<u32, Known>,
+    n: NodeId,
+    name: &[u8],
+) -> CramfsMisreads
+    requires node { HasNode (view image.now) n.0 }
+    requires first { AreFirst image.now (names (view image.now).tree) first.now }
+    ensures { (x : Node) → image_node (view image.now) n.0 ≡ Some x
+        → result ≡ in_cramfs image.now (names (view image.now).tree) name.now x }
+{
+    let (text, seen) = (text_at(image, n), seen_in_cramfs(image, n));
+    let room = name_room_at(image, n) as usize;
+    cramfs_misreads(name, text, seen, room, kept_at(image, first, n))
 }
 
 /// Puts the lines of a name of a cramfs image.
@@ -91,18 +145,8 @@ pub(crate) fn put_cramfs_name<'a, W: ByteWrite>(
         (cramfs_name image.now (names (view image.now).tree)
         (named (given_path walk.now) (given_name walk.now) x)) }
 {
-    let is_short = is_in_whole_blocks(image, n);
-    put_line(is_short, b"linux 1 LastBlock ", w, failed, printed, walk);
-    let is_taken = is_taken_for_another(image, first, n);
-    put_line(is_taken, b"linux 2 SharedTable ", w, failed, printed, walk);
-    let is_other = is_other_cramfs_device(image, n);
-    put_line(is_other, b"linux 6 Device ", w, failed, printed, walk);
-    let is_lost = is_not_found(image, n, walk.name());
-    put_line(is_lost, b"linux 7 NamePadded ", w, failed, printed, walk);
-    let has_zero = is_cut_link(image, n);
-    put_line(has_zero, b"linux 8 LinkCut ", w, failed, printed, walk);
-    let has_mode = is_other_root(image, n, walk.name());
-    put_line(has_mode, b"linux 9 RootMode ", w, failed, printed, walk);
+    let found = found_in_cramfs(image, first, n, walk.name());
+    put_cramfs_lines(found, w, failed, printed, walk);
 }
 
 /// Puts the lines of a name of a romfs image.
@@ -120,21 +164,6 @@ pub(crate) fn put_romfs_name<'a, W: ByteWrite>(
         printed.old printed.new
         (romfs_name image.now (named (given_path walk.now) (given_name walk.now) x)) }
 {
-    let is_cut = is_cut_name(walk.name());
-    put_line(is_cut, b"linux 3 NameCut ", w, failed, printed, walk);
-    let is_found = romfs_finds(walk.name());
-    put_line(!is_found, b"linux 4 NameTooLong ", w, failed, printed, walk);
-    let is_other = is_other_romfs_device(image, n);
-    put_line(is_other, b"linux 6 Device ", w, failed, printed, walk);
-    let has_zero = is_cut_link(image, n);
-    put_line(has_zero, b"linux 8 LinkCut ", w, failed, printed, walk);
-    let is_elsewhere = is_read_elsewhere(image, n, walk.name());
-    put_line(
-        is_elsewhere,
-        b"linux 10 OtherPlace ",
-        w,
-        failed,
-        printed,
-        walk,
-    );
+    let found = found_in_romfs(image, n, walk.name());
+    put_romfs_lines(found, w, failed, printed, walk);
 }

@@ -7,15 +7,15 @@ ghost use Rattle.linux_misreads.specs.Readers.{listed_len as len_listed, romfs_r
 
 use romfs_format::superblock::upto_zero;
 
-/// The number of a device in Linux.
-pub(crate) fn device_number(major: u32, minor: u32) -> u64
+/// Returns the number of a device in Linux.
+pub fn device_number(major: u32, minor: u32) -> u64
     ensures { result ≡ number_of major minor }
 {
     (u64::from(major) * (1 << 20) + u64::from(minor)) % (1 << 32)
 }
 
-/// The number in Linux of a device of which 16 bits are kept.
-pub(crate) fn old_device(bits: u32) -> u64
+/// Returns the number in Linux of a device of which 16 bits are kept.
+pub fn old_device(bits: u32) -> u64
     ensures { result ≡ old_number bits }
 {
     device_number(bits % (1 << 16) / (1 << 8), bits % (1 << 8))
@@ -42,8 +42,8 @@ pub(crate) fn romfs_finds(name: &[u8]) -> bool
     !(128 < name.len())
 }
 
-/// The offset that Linux uses for the root of romfs, behind a volume's name.
-pub(crate) fn romfs_root(volume: &[u8]) -> usize
+/// Returns the offset that Linux uses for the root of romfs, behind a volume's name.
+pub fn romfs_root(volume: &[u8]) -> usize
     ensures { result ≡ root_of volume.now }
 {
     (16 + volume.len().min(128) + 1 + 15) / 16 * 16
@@ -59,8 +59,8 @@ pub(crate) fn romfs_data(b: &[u8], at: u32) -> u64
 }
 
 /// Whether Linux finds a name of cramfs that has `room` bytes with its padding.
-pub(crate) fn cramfs_finds(name: &[u8], room: u32) -> bool
+pub(crate) fn cramfs_finds(name: &[u8], room: usize) -> bool
     ensures { result ≡ finds name.now room }
 {
-    (name.len() + 3) / 4 * 4 == room as usize
+    (name.len() + 3) / 4 * 4 == room
 }

@@ -1,13 +1,25 @@
-//! The manifest is a text that describes, line by line, what an image holds. `parse` returns the
-//! lines of a manifest, or its first fault. `put_line` and `write_manifest` print any lines.
+//! The manifest is a text that describes, line by line, what an image holds.
 //!
-//! Proved: on all bytes, if memory is not refused, `parse` is the grammar's function from the bytes
-//! of a text to its lines or its first fault (`specs/Grammar.antt`). If the grammar accepts each
-//! line behind those before it, exactly these lines are read back from their text
-//! (`laws::reads_back`). docs/MANIFEST.md explains the grammar by an example.
+//! `specs/Grammar.antt` is its grammar, a function from the bytes of a text to its lines or its
+//! first fault; docs/MANIFEST.md explains it by an example. `specs/Faults.antt` and
+//! `specs/Alone.antt` define what is found of all bad lines, and of a line by itself.
 //!
-//! `bad_lines` returns all bad lines of a text, each with its fault; a bad line counts as one that
-//! makes its path (`specs/Faults.antt`). `read_line` reads a line by itself (`specs/Alone.antt`).
+//! Proved:
+//!
+//! - `parse`, `lines`, `volume`, `volume_line`, `sources`: on all bytes, if memory is not refused,
+//!   a text is read as exactly the lines that the grammar defines, with the volume and the sources
+//!   in order. If it has a fault, it is refused with its first faulty line and the least number of
+//!   that line.
+//! - `name`: each fault has its name.
+//! - `put_line`, `write_line`, `write_manifest`: any lines are written whole or as a prefix.
+//! - `laws::reads_back`: if the grammar accepts each of some lines after the lines before it, their
+//!   text is read as exactly these lines.
+//! - `bad_lines`, `laws::first_is_parsed`: all bad lines of a text are found, each with its least
+//!   fault after the lines before it, if a bad line counts as one that makes its path; the first is
+//!   the one for which the text is refused.
+//! - `read_line`, `own_fault`, `laws::alone_is_behind`: a line by itself is read with its meaning,
+//!   or has the fault that it has after any lines that make its directory and what it names, and
+//!   not its path.
 //!
 //! A caller of `parse` and of `layout_plan`, proved: library_tests/src/examples/planned.rt.
 //! `sources` returns the names of the files that the image will hold; pass their sizes and contents

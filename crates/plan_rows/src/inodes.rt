@@ -79,8 +79,8 @@ fn inode_from<'a>(line: &'a Line, contents: Option<SourceUse>) -> Inode<'a>
     plain(line, kind, ALIGN, 0, Bytes::Nothing)
 }
 
-/// Returns the file that a line makes.
-fn inode_of<'a>(line: &'a Line, files: &PathTargets) -> Inode<'a>
+/// Returns the file that a line makes. A `hard` line makes none of its own.
+pub fn inode_of<'a>(line: &'a Line, files: &PathTargets) -> Inode<'a>
     ensures { (lines : List decl.Line) (sizes : List ℕ) → IsOf lines sizes files.now
         → inode_view result ≡ tree.inode_of lines sizes line.now }
 {

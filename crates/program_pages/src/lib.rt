@@ -1,17 +1,23 @@
 //! How many pages of a program in the flash Linux maps in place, and how many it copies into
 //! memory.
 //!
-//! Proved: the counts are those of `specs/Counted.antt`, over the program headers of the file. A
-//! file that is no program, or one with a segment that Linux does not load, is told apart. The
-//! pages in place are those that Linux maps to the flash, without those that the dynamic linker
-//! fills with zeros (`laws::counted_is_mapped`).
+//! `specs/Physmem.antt` restates Linux's rule for a file in one run of a cramfs image, and
+//! `specs/Counted.antt` defines the counts, over the program headers of the file.
 //!
-//! Of a file in one run of a cramfs image, `pages_in_place` counts the pages that Linux maps
-//! (`laws::run_is_mapped`; Linux's rule is `specs/Physmem.antt`). If the run begins with a page of
-//! the flash, each page of each mapping that cannot be written is mapped at the address of its
-//! place, except the file's last page if something else is in it (`laws::aligned_is_in_place`).
-//! Without an MMU each mapping within the file is mapped whole, wherever the run begins
-//! (`laws::run_is_whole`).
+//! Proved:
+//!
+//! - `pages_in_place`, `shares_page`, `laws::run_is_mapped`: of a mapping of a file in one run, how
+//!   many pages Linux maps to the flash, by its rule as restated, for each such file of a cramfs
+//!   tree; whether the last page has other data.
+//! - `laws::aligned_is_in_place`: if the run begins with a page of the flash, each page of a
+//!   mapping that cannot be written is at the address of its bytes, except a shared last page.
+//! - `laws::run_is_whole`: without an MMU each mapping within the file is mapped whole, wherever
+//!   the run begins.
+//! - `program_pages`, `laws::counted_is_mapped`: the pages of a program: in place (of a file of
+//!   cramfs in one run, with an MMU: the sum of those that Linux maps for its program headers,
+//!   without those that the dynamic linker fills with zeros), copied, those that are not written,
+//!   zeros, and the end of the last segment; or that Linux does not load it.
+//! - `is_flat`, `flat_pages`: the pages of a program of the flat format.
 #![tactic(auto)]
 
 mod counting;

@@ -1,9 +1,15 @@
 //! Which programs of an image Linux executes in place: a line for each program or library of the
 //! list, and the totals.
 //!
-//! Proved: `write_programs` writes exactly the text of `specs/Lines.antt`, or a prefix of it if the
-//! writer failed. What is found of a program is `specs/Found.antt`; its pages are those of
-//! `program_pages`, of which a law there says that Linux maps them.
+//! `specs/Lines.antt` has the lines. What is found of a program is `specs/Found.antt`; its pages
+//! are those of `program_pages`, of which a law there says that Linux maps them.
+//!
+//! Proved:
+//!
+//! - `write_programs`: the output has exactly the lines of `xip`, and the totals; if a write fails,
+//!   a prefix is written.
+//! - `verdict_at`, `Reason::word`: whether a program is not, or not wholly, in place; the verdict
+//!   on a program at an address; the word of a reason.
 #![tactic(auto)]
 
 mod finding;

@@ -1,12 +1,16 @@
-//! The traversal of the records of an image, for any format. `traverse` returns the records to
-//! which references lead from the superblock, in preorder; or the least fault of references and
-//! records.
+//! The traversal of the records of an image, for any format. The records refer to one another: a
+//! directory to the first record of its list, and a record to the next one of its list
+//! (`specs/References.antt`).
 //!
-//! Proved: the records are those of the finite forest of `specs/Forest.antt`, over the references
-//! of the format (`specs/References.antt`). A fault is the least of `specs/Faults.antt`.
+//! Proved:
 //!
-//! The records of an image refer to one another: a directory to the first record of its list, and a
-//! record to the next one of its list.
+//! - `traverse`: the records, in preorder, of the finite forest (`specs/Forest.antt`) that the
+//!   references from the superblock on describe, or the least fault (`specs/Faults.antt`): too many
+//!   references, a fault of a record, or a record with two references.
+//! - `laws::exact`: there is no fault exactly if the records are those of a finite forest.
+//! - `CheckError` as `From<TraversalError>`: as the answer of a check, a fault keeps its number and
+//!   offset.
+//! - `repeats`: among the names of each list, exactly those that repeat an earlier one are marked.
 #![tactic(auto)]
 
 mod answer;

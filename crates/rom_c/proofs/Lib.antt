@@ -11,3 +11,5 @@ mod Walked
 mod Again
 mod Fronts
 mod Parents
+mod Visits
+mod Numbered

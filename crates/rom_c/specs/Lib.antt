@@ -4,6 +4,7 @@ pub mod Opened
 pub mod Outcomes
 pub mod Files
 pub mod Directories
+pub mod Visits
 pub mod Linked
 pub mod Volumes
 pub mod Numbers

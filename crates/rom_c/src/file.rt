@@ -60,21 +60,21 @@ pub(crate) fn no_entry<'a>() -> RomtoolEntry<'a>
     }
 }
 
-/// Returns the directory or regular file of a node, at its start.
-pub(crate) fn opened_at<'a>(image: &RomtoolImage<'a>, node: NodeId) -> RomtoolFile<'a>
+/// Returns the directory or regular file of a node, at a position.
+pub(crate) fn opened_at<'a>(image: &RomtoolImage<'a>, node: NodeId, at: u64) -> RomtoolFile<'a>
     requires { is_some (stands_at image.now.bytes.now
         (parts_of image.now.format image.now.accessible image.now.root image.now.references
-        image.now.depth) node.0 0) ≡ true }
+        image.now.depth) node.0 at) ≡ true }
     ensures image { result.image ≡ image.now }
     ensures error { result.error ≡ 0 }
     ensures node { result.node ≡ node.0 }
-    ensures position { result.position ≡ 0 }
+    ensures position { result.position ≡ at }
 {
     RomtoolFile {
         image: *image,
         error: 0,
         node: node.0,
-        position: 0,
+        position: at,
     }
 }
 

@@ -1,5 +1,6 @@
 //! The calls of C on open files. A file keeps its image, its node and its `error` in each call.
 ghost use Rattle.std.specs.Prelude.{◌≡◌, ◌≢◌, true, length, None, IsSomeAnd, IsSome, IfSome, ◌||◌};
+ghost use Rattle.std.specs.Prelude.{is_some};
 ghost use Rattle.std.specs.Bool.{OnTrue, OnFalse};
 ghost use Rattle.rom_tree.specs.Tree.{Node, node_at, is_directory, is_regular};
 ghost use Rattle.rom_tree.specs.Image.{LieIn};
@@ -13,10 +14,12 @@ ghost use Rattle.rom_c.specs.Outcomes.{IsCopied, IsListed, mapped_reported};
 ghost use Rattle.rom_c.specs.Outcomes.{IsNoEntry, HasKindIn};
 ghost use Rattle.rom_c.specs.Directories.{told_on, seekdir_on};
 ghost use Rattle.rom_c.specs.Files.{IsNoFile, IsOpen, IsOpenAt, IsOpenedBy, MovesTo, file_in};
+ghost use Rattle.rom_c.specs.Files.{parts_in};
+ghost use Rattle.rom_c.specs.Opened.{stands_in};
 
 use crate::answers::{CLOSED, RomtoolPlace, RomtoolStat, no_place, no_stat};
 use crate::directories::{seekdir_in, telldir_in};
-use crate::file::{RomtoolEntry, RomtoolFile, moved, no_entry, no_file, node_of};
+use crate::file::{RomtoolEntry, RomtoolFile, moved, no_entry, no_file, node_of, opened_at};
 use crate::image::{OPEN, RomtoolImage, image_of};
 use crate::lending::{fstat_in, lend_in, map_in, read_at_in, read_in, readdir_in, seek_in};
 use crate::opening::{open_at, open_in};
@@ -84,6 +87,34 @@ pub extern "C" fn romtool_open_node_v3<'a>(
     }
     *file = open_at(image, NodeId(node));
     file.error
+}
+
+/// Opens again what was open: a directory or regular file with this node number, at this position.
+/// Both were those of an open file of the same image. Returns 0, or the number of the error, which
+/// is also in the file: 13 if no image is open.
+#[unsafe(no_mangle)]
+pub extern "C" fn romtool_reopen_v3<'a>(
+    file: &mut RomtoolFile<'a>,
+    image: &RomtoolImage<'a>,
+    node: u32,
+    position: u64,
+) -> u32
+    requires { image.now.status ≡ 1 → (t : Node) → HasTree image.now.bytes.now usual t
+        → is_some (stands_in t image.now.bytes.now (parts_in image.now) node position) ≡ true }
+    ensures error { result ≡ file.new.error }
+    ensures image { file.new.image ≡ image.now }
+    ensures closed { image.now.status ≢ 1 → IsNoFile 13 file.new }
+    ensures opened { image.now.status ≡ 1 → (file.new.error ≡ 0) × (file.new.node ≡ node)
+        × (file.new.position ≡ position) }
+    ensures stands { image.now.status ≡ 1 → (t : Node) → file_in t file.new
+        ≡ stands_in t image.now.bytes.now (parts_in image.now) node position }
+{
+    if image.status != OPEN {
+        *file = no_file(image, CLOSED);
+        return CLOSED;
+    }
+    *file = opened_at(image, NodeId(node), position);
+    0
 }
 
 /// Returns the kind and numbers of an open file. The error is 6 if the file is not open.

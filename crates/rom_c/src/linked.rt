@@ -1,14 +1,17 @@
-//! The names of a node, and the parent of a directory.
-ghost use Rattle.std.specs.Prelude.{◌≡◌, ◌≤◌, ◌^◌, Some, length};
-ghost use Rattle.rom_tree.specs.Tree.{Node, IsShallow, entries_of, nodes};
+//! The names of nodes, and the parent of a directory.
+ghost use Rattle.std.specs.Prelude.{◌≡◌, ◌≤◌, ◌<◌, ◌^◌, ◌==◌, ℕ, Some, length, map, take, drop};
+ghost use Rattle.std.specs.List.{count_by};
+ghost use Rattle.std.specs.List.Sorted.{IsNonDecreasing};
+ghost use Rattle.rom_tree.specs.Tree.{Node, IsShallow, entries_of, ino_of, nodes};
 ghost use Rattle.rom_tree.specs.Image.{HasDirectory, HasNode, image_node};
 ghost use Rattle.image_check.specs.Any.{any_view};
 ghost use Rattle.rom_c.specs.Linked.{entered_from, has_entry, links_of, parent_reported};
 ghost use Rattle.rom_c.specs.Reported.{found_reported};
 
 use crate::answers::{RomtoolNode, no_node};
+use crate::visit::Visit;
 use image_check::AnyImage;
-use rom_tree::{Cursor, NodeId, TreeImage, Walk, is_directory_at};
+use rom_tree::{Cursor, NodeId, TreeImage, is_directory_at};
 
 /// The error: no directory has an entry of the node.
 const NO_ENTRY: u32 = 1;
@@ -23,13 +26,76 @@ pub(crate) fn links_in(image: &AnyImage<'_>, node: NodeId) -> u64
     ensures { result ≡ links_of (any_view image.now).tree node.0 }
 {
     let mut links = 0;
-    let mut walk = Walk::new();
-    while let Some(found) = walk.next(image) {
+    let mut visit = Visit::new();
+    while let Some(found) = visit.next(image) {
         if found.0 == node.0 {
             links += 1;
         }
     }
     links
+}
+
+/// Counts the names of the tree.
+fn count_names(image: &AnyImage<'_>) -> u64
+    requires shallow { IsShallow (any_view image.now).tree }
+    requires few { length (nodes (any_view image.now).tree) ≤ 2 ^ 32 }
+    ensures { result ≡ length (nodes (any_view image.now).tree) }
+{
+    let mut count = 0;
+    let mut visit = Visit::new();
+    'names: while let Some(_) = visit.next(image) {
+        count += 1;
+    }
+    count
+}
+
+/// Writes the number of each name's node, in preorder.
+fn put_numbers(image: &AnyImage<'_>, numbers: &mut [u32])
+    requires shallow { IsShallow (any_view image.now).tree }
+    requires room { length numbers.old ≡ length (nodes (any_view image.now).tree) }
+    ensures { numbers.new ≡ map ino_of (nodes (any_view image.now).tree) }
+{
+    let mut at = 0;
+    let mut visit = Visit::new();
+    while let Some(found) = visit.next(image) {
+        numbers[at] = found.0;
+        at += 1;
+    }
+}
+
+/// Fills a slice with the numbers of the nodes of all names, in rising order.
+fn fill(image: &AnyImage<'_>, numbers: &mut [u32])
+    requires shallow { IsShallow (any_view image.now).tree }
+    requires room { length numbers.old ≡ length (nodes (any_view image.now).tree) }
+    ensures len { length numbers.new ≡ length numbers.old }
+    ensures sorted { IsNonDecreasing numbers.new }
+    ensures links { (n : ℕ) → count_by (λ v. v == n) numbers.new
+        ≡ links_of (any_view image.now).tree n }
+{
+    put_numbers(image, numbers);
+    numbers.sort_unstable();
+}
+
+/// Writes the numbers of the nodes of all names, in rising order, to the front of a slice; a node
+/// with several names comes as often. Returns how many names there are. If the slice has less room,
+/// it stays as it is.
+pub(crate) fn nodes_in(image: &AnyImage<'_>, numbers: &mut [u32]) -> u64
+    requires shallow { IsShallow (any_view image.now).tree }
+    requires few { length (nodes (any_view image.now).tree) ≤ 2 ^ 32 }
+    ensures count { result ≡ length (nodes (any_view image.now).tree) }
+    ensures small { length numbers.old < result → numbers.new ≡ numbers.old }
+    ensures rest { drop result numbers.new ≡ drop result numbers.old }
+    ensures sorted { result ≤ length numbers.old → IsNonDecreasing (take result numbers.new) }
+    ensures links { result ≤ length numbers.old → (n : ℕ)
+        → count_by (λ v. v == n) (take result numbers.new)
+        ≡ links_of (any_view image.now).tree n }
+{
+    let count = count_names(image);
+    if count > numbers.len() as u64 {
+        return count;
+    }
+    fill(image, &mut numbers[..count as usize]);
+    count
 }
 
 /// Returns whether an entry of a directory leads to a node.
@@ -62,8 +128,8 @@ fn entered_from(image: &AnyImage<'_>, node: NodeId) -> RomtoolNode
     requires { IsShallow (any_view image.now).tree }
     ensures { result ≡ found_reported (entered_from (any_view image.now).tree node.0) }
 {
-    let mut walk = Walk::new();
-    while let Some(found) = walk.next(image) {
+    let mut visit = Visit::new();
+    while let Some(found) = visit.next(image) {
         if leads_to(image, found, node) {
             return RomtoolNode {
                 error: 0,

@@ -28,7 +28,7 @@ pub(crate) fn open_in<'a>(image: &RomtoolImage<'a>, path: &[u8]) -> RomtoolFile<
     match walk(&mut held, path, true) {
         Ok(node) => {
             if can_open(&held, node) {
-                opened_at(image, node)
+                opened_at(image, node, 0)
             } else {
                 no_file(image, NO_FILE)
             }
@@ -49,7 +49,7 @@ pub(crate) fn open_at<'a>(image: &RomtoolImage<'a>, node: NodeId) -> RomtoolFile
 {
     one_tree();
     if can_open(&image_of(image), node) {
-        opened_at(image, node)
+        opened_at(image, node, 0)
     } else {
         no_file(image, NO_FILE)
     }

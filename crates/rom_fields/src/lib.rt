@@ -2,13 +2,32 @@
 //! writers that count their failures; texts that are written whole or as a prefix; the first
 //! overlap of extents; and a canvas of bytes, on which parts are put at their offsets.
 //!
-//! Proved: each word that is read or put is that of `specs/Words.antt` (romfs stores big-endian
-//! words: Linux Documentation/filesystems/romfs.rst). Each text is written whole, or as a prefix if
-//! the writer failed. `laws`: each part can be read after it is laid, every other byte is zero, and
-//! the sums are 0. `specs/Parts.antt` lays parts one after the other, with zeros between them;
-//! `specs/Sums.antt` has the words that bring the sums of romfs to 0. A `Rewrite` is a writer that
-//! can replace bytes that it took (`specs/Rewritten.antt`), so a superblock with a checksum of all
-//! that follows it is written first and once more at the end; `Memory` is such a writer.
+//! `specs/Words.antt` defines words (romfs stores big-endian ones: Linux
+//! Documentation/filesystems/romfs.rst), `specs/Parts.antt` parts that are laid one after the
+//! other, with zeros between them, and `specs/Sums.antt` the words that bring the sums of romfs to
+//! 0. With a `Rewrite` (`specs/Rewritten.antt`), a superblock with a checksum of all that follows
+//! it is written first and once more at the end.
+//!
+//! Proved:
+//!
+//! - `be32`, `le32`: a word is read in either byte order.
+//! - `put_be32`, `put_le32`: writing a word changes only its four bytes, and nothing if they are
+//!   not all within the slice.
+//! - `word_sum`, `pad`, `part`: the sum of a slice's words; the least multiple that is not below a
+//!   number; a part of a slice.
+//! - `write_whole`, `put`, `put_decimal`, `put_long_decimal`, `put_octal`, `put_escaped`: a text, a
+//!   decimal or octal number, and an escaped name are written whole, exactly as defined; if the
+//!   writer fails, a prefix is written.
+//! - `Extents::first_overlap`: the least offset at which two extents overlap, or none.
+//! - `Contents::{add, len, get}`: the contents of sources by index.
+//! - `Canvas::{new, take}`: parts of a buffer are lent for writing, from front to back (*windows*).
+//!   One is lent exactly if the range is within the buffer and after the previous window; the
+//!   window has exactly the bytes of its range.
+//! - `laws::{parts_stand, parts_are_all}`: if parts are laid one after another, each can be read at
+//!   its offset, all other bytes are zero, and no other bytes of this length have these properties.
+//! - `laws::sums_are_zero`: the words that are chosen to bring sums to 0 do so.
+//! - `Rewrite`, `Memory` as `Rewrite`: bytes that a writer took are replaced at the same place, and
+//!   no others. At an error a prefix of the new bytes is there. `Memory` does so.
 #![tactic(auto)]
 
 mod bytes;

@@ -1,17 +1,27 @@
-//! The tree of an image, and what the crates that read it share. `TreeImage`: every call answers
-//! from one tree. `Walk` returns the names of the tree in preorder, and `list` writes them.
-//!
-//! Proved: code over any `TreeImage` gets from each call the answer of that one tree. `list` writes
-//! one line for each name, in preorder, or a prefix of these lines if the writer failed.
+//! The tree of an image, and what the crates that read it share. Code over any `TreeImage` gets
+//! from each call the answer of one tree, which an implementation defines as a function of the
+//! value (`sample_image` is the smallest). `Walk` returns the names of the tree in preorder, and
+//! `list` writes them. Nothing here allocates memory.
 //!
 //! `specs/Tree.antt` defines a tree: a node has its attributes and a body, and a directory's body
-//! is a list of names with nodes. `specs/Image.antt` defines an image. Nothing here allocates
-//! memory.
+//! is a list of names with nodes. `specs/Image.antt` defines an image.
+//!
+//! Proved:
+//!
+//! - `list`: the preorder text of the tree, a line for each name, is written exactly, or a prefix
+//!   of it; it fails only if a write failed.
+//! - `Walk::{new, next, name, put_path, append_path}`: a walk returns the names of the tree in
+//!   preorder, each with its node, its path and its last name.
+//! - `laws::names_are_listed`: a list has a line for each of these names.
+//! - `longest_run`, `front_bytes`: the offset of a byte of a file, and how many of the file's bytes
+//!   are consecutive from there on; the consecutive bytes at its front.
+//! - `link_text`, `bytes_from`: a link's text, and the bytes from an offset on.
+//! - `is_directory_at`, `is_link_at`, `is_regular_at`, `is_dot`, `is_dot_dot`, `is_dots`: tests of
+//!   a node's kind, and of the names `.` and `..`.
 //!
 //! A caller of `list`, proved: library_tests/src/examples/checked.rt. `list` and `Walk` require a
-//! tree of at most 65 levels, which `image_check::check` guarantees. An implementation of
-//! `TreeImage` defines its tree as a function of the value (`sample_image` is the smallest). A
-//! layer over another image, such as those of `lookups`, has the tree of that image.
+//! tree of at most 65 levels, which `image_check::check` guarantees. A layer over another image,
+//! such as those of `lookups`, has the tree of that image.
 #![tactic(auto)]
 
 mod dots;

@@ -1,11 +1,22 @@
-//! `Romfs::check`, which accepts the bytes of a romfs image or names their least fault; and
-//! `Romfs`, the checked image as a `TreeImage`, which copies no contents (Linux
-//! Documentation/filesystems/romfs.rst).
+//! The check of a romfs image; and `Romfs`, the checked image as a `TreeImage`, which copies no
+//! contents.
 //!
-//! Proved: an image is returned only if the bytes hold a tree of files, as `romfs_format` defines
-//! it, and have no fault. A fault is returned only if they hold no tree, and it is the least one.
-//! Each call on the image answers from the tree, and `Romfs::extents` returns the extents that the
-//! check tested for overlaps. By `laws::exact` there is no fault exactly if there is a tree.
+//! `romfs_format` defines trees and faults (Linux Documentation/filesystems/romfs.rst).
+//!
+//! Proved:
+//!
+//! - `Romfs::check`: an image is accepted only if its bytes hold a tree within the limits and have
+//!   no fault of the format's fault set. A fault is reported only if they hold no such tree; it is
+//!   the least of the set, by phases. Refused memory is reported only if the phase of the image as
+//!   a whole finds no fault.
+//! - `report`: the count of references and the tree's depth.
+//! - `laws::exact`: the fault set is empty exactly if the bytes hold a tree; its definition
+//!   mentions offsets, references and extents, but no tree.
+//! - `Romfs` as `rom_tree::TreeImage`: every call on an accepted image answers from that tree; a
+//!   run reaches to the end of the file.
+//! - `Romfs::extents`: the extents of an accepted image are those that the check tested for
+//!   overlaps: those of the superblock and of the tree's records. The extents of a directory's
+//!   record come before those of the records in its list.
 #![tactic(auto)]
 
 mod accessible;

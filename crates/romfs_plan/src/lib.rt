@@ -1,10 +1,13 @@
-//! The plan of a romfs image, from rows: the names of a manifest in preorder. `image_len`, `items`
-//! and `sections` return its length, headers and sections, with offsets that two passes over the
-//! rows compute.
+//! The plan of a romfs image, from rows: the names of a manifest in preorder. Two passes over the
+//! rows, forwards and backwards (`specs/Passes.antt`), compute the offsets; they need no recursion.
+//! `romfs_layout` defines the layout.
 //!
-//! Proved: they are those of the layout (`romfs_layout`); `image_len` returns nothing exactly if
-//! the image is too large. `specs/Passes.antt` has the two passes, forwards and backwards. They
-//! need no recursion.
+//! Proved:
+//!
+//! - `image_len`: the length of a romfs image, or that it is too large, exactly if it is.
+//! - `items`, `sections`: its headers with their offsets and words, and its sections, as in the
+//!   layout.
+//! - `laws::rows_are_placed`: the two passes compute exactly its offsets.
 #![tactic(auto)]
 
 mod headers;

@@ -1,11 +1,12 @@
-//! A romfs image from its plan. `write` puts it into a buffer; `stream_through` and `stream` write
-//! it to a writer.
+//! A romfs image from its plan, into a buffer or to a writer. `specs/Form.antt` has the image's
+//! segments; `romfs_layout` and `manifest_layout` define the layout.
 //!
-//! Proved: at an `Ok` of `write`, the buffer holds exactly the layout (`romfs_layout`,
-//! `manifest_layout`), whatever it held before. At an `Ok` of `stream` or `stream_through`, exactly
-//! the layout was written, if the contents of the sources are known. An error of `write` names the
-//! first file whose size is not the planned one, and leaves the buffer as it was. `specs/Form.antt`
-//! has the image's segments.
+//! Proved:
+//!
+//! - `write`: at an `Ok` the buffer has exactly the layout, whatever it held before; an error names
+//!   the first file of another size, and the buffer is as it was.
+//! - `stream_through`, `stream`: at an `Ok` exactly the layout was written, if the sources report
+//!   their contents; the errors are those of `image_stream`.
 #![tactic(auto)]
 
 mod form;

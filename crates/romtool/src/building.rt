@@ -10,88 +10,76 @@ ghost use Rattle.manifest.specs.Lines.{sources_of};
 ghost use Rattle.plan_types.specs.Plans.{IsPlanOf};
 
 use crate::asked::Asked;
-use crate::files::{Files, INPUT, Kept, kept_names, kept_states, say_not_taken};
-use crate::foreseen::{Warnings, foreseen};
+use crate::contents::Shares;
+use crate::files::{Files, INPUT, Kept, kept_names, kept_states, not_taken};
 use crate::in_place::{Programs, Unknown, programs_of};
 use crate::origin::Origin;
-use crate::reading::TextFile;
+use crate::output::{coloured_lines, lines};
+use crate::placing::{self, FillError, KeptWith};
 use crate::reporter::Reporter;
 use crate::scan_all::ScannedText;
-use crate::sources::{joined_names, names_of, sizes_of, stamps_of, texts_of};
-use crate::watched::Watched;
-use crate::{contents, depfile, explained, reading, warned};
+use crate::sources::{joined_names, names_of, sizes_of, stamps_of, texts_of, unusable_sources};
+use crate::stop::{Line, Stop, changed, refused, unopened, unread};
+use crate::unchanged::{Late, Unchanged};
+use crate::words::Words;
+use crate::{contents, depfile, explained, warned};
 use build_commands::{
-    Ended, Fate, Foreseen, Job, Misread, Rule, Tools, Unbuilt, Wanted, most_bytes,
-    print_bad_manifest, print_misfit, print_size, print_strict, print_xip,
+    Ended, Fate, Foreseen, Job, Misread, Rule, Tools, Unbuilt, Wanted, Warnings, foreseen,
+    most_bytes, print_strict, print_xip,
 };
 use command_line::Build;
 use image_build::Unwritten;
 use layout_plan::{PlanError, plan};
 use manifest::{Manifest, ManifestError, parse};
 use plan_types::{Format, Plan};
-use program_streams::Held;
-use rom_commands::{Ending, Status};
-use rom_fields::{Failed, Plain};
-use sentences::reasons::{OWN_ERROR, OWN_INPUT, OWN_OUTPUT, PART_REPLACED};
-use std::alloc::AllocError;
-use std::{fs, io};
+use rom_commands::Status;
+use sentences::reasons::{OWN_INPUT, OWN_OUTPUT, PART_REPLACED};
+use std::alloc::{AllocError, Global};
+use std::io;
+use system_files::reading::TextFile;
 use system_files::{
-    Disk, FillError, Identity, KeepError, KeptWith, Late, Progress, Stamp, Target, Unchanged,
-    let_rest, own_output,
+    Disk, Identity, KeepError, Outputs, Progress, Stamp, Target, Watched, let_rest, reading,
 };
 
 /// The number of bytes of a source that are read at once, if there is memory for them.
 const LARGE: usize = 256 << 10;
 
-/// The ending of a refusal whose line was written.
-fn printed(reporter: &Reporter<'_>, written: Result<(), Failed>) -> Status {
-    match written {
-        Ok(()) => Status::Refused,
-        Err(Failed) => reporter.say(Ending::WriteFault),
-    }
-}
-
 /// The text of the manifest in a file.
-fn text_of(reporter: &Reporter<'_>, name: &str) -> Result<reading::Text, Status> {
+fn text_of(rt: &HostRuntime, name: &str) -> Result<reading::Text, Stop> {
     let text = if name == INPUT {
-        reading::manifest_of_input(reporter.rt)
+        reading::manifest_of_input(rt)
     } else {
-        reading::manifest(reporter.rt, name)
+        reading::manifest(rt, name)
     };
     match text {
-        Ok(text) => {
-            explained::returns(reporter, name, &text.bytes);
-            Ok(text)
-        }
-        Err(e) => Err(reporter.unread(name.as_bytes(), &e)),
+        Ok(text) => Ok(text),
+        Err(e) => Err(unread(rt.alloc(), name, e)),
     }
 }
 
-/// The manifest of a text, which is in the file of this name.
-fn manifest_of(reporter: &Reporter<'_>, name: &str, text: &[u8]) -> Result<Manifest, Status>
+/// The manifest of a text, which is in the file of this name. Otherwise words say which lines are
+/// bad.
+fn manifest_of(name: &str, text: &[u8], mut words: Words) -> Result<Manifest, Stop>
     ensures { IfOk result (λ m. manifest_of text.now ≡ Ok m) }
 {
-    let rt = reporter.rt;
-    match parse(rt.alloc(), text) {
+    match parse(words.alloc(), text) {
         Ok(manifest) => Ok(manifest),
-        Err(ManifestError::OutOfMemory) => Err(reporter.say(Ending::Memory)),
+        Err(ManifestError::OutOfMemory) => Err(Stop::Memory),
         Err(ManifestError::Bad { line, number }) => {
-            let out = &mut Plain::new(Held::new(rt.alloc(), io::writer(rt)));
-            let status = printed(reporter, print_bad_manifest(out, line, number));
-            explained::bad_manifest(reporter, name, text, line, number);
-            explained::other_bad_lines(reporter, name, text);
-            Err(status)
+            explained::bad_manifest(&mut words, name, text, line, number);
+            explained::other_bad_lines(&mut words, name, text);
+            Err(Stop::Told(Line::BadManifest { line, number }, words))
         }
     }
 }
 
-/// The plan of a manifest whose sources have these sizes.
+/// The plan of a manifest whose sources have these sizes. Otherwise words say what does not fit.
 fn planned(
-    reporter: &Reporter<'_>,
     format: Format,
     origin: Origin<'_>,
     sizes: &[u64],
-) -> Result<Plan, Status>
+    mut words: Words,
+) -> Result<Plan, Stop>
     requires { length sizes.now ≡ length (sources_of origin.manifest.now.lines) }
     ensures plan { IfOk result (IsPlanOf (format_of format) origin.entry.manifest.now sizes.now) }
     ensures sizes { IfOk result (λ plan. plan.sizes ≡ sizes.now) }
@@ -99,114 +87,60 @@ fn planned(
     ensures own { IfOk result (λ plan. IsPlanOf plan.format origin.entry.manifest.now plan.sizes
         plan) }
 {
-    let rt = reporter.rt;
-    match plan(rt.alloc(), origin.manifest, sizes, format) {
+    match plan(words.alloc(), origin.manifest, sizes, format) {
         Ok(plan) => Ok(plan),
-        Err(PlanError::OutOfMemory) => Err(reporter.say(Ending::Memory)),
+        Err(PlanError::OutOfMemory) => Err(Stop::Memory),
         Err(PlanError::Refused { line, number }) => {
-            let out = &mut Plain::new(Held::new(rt.alloc(), io::writer(rt)));
-            let status = printed(reporter, print_misfit(out, line, number));
-            explained::misfit(reporter, format, origin, sizes, (line, number));
-            explained::other_misfits(reporter, format, origin, sizes, line);
-            Err(status)
+            explained::misfit(&mut words, format, origin, sizes, (line, number));
+            explained::other_misfits(&mut words, format, origin, sizes, line);
+            Err(Stop::Told(Line::Misfit { line, number }, words))
         }
     }
 }
 
-/// What an image is made of: the file of its manifest, if it has one, and its sources.
-#[derive(Clone, Copy)]
-struct Inputs<'a> {
-    manifest: Option<Identity>,
-    stamps: &'a [Stamp],
+/// The files that an image is made of: that of its manifest, if it has one, and its sources.
+fn inputs_of(alloc: Global, files: Files<'_>) -> Result<Vec<Identity>, AllocError> {
+    let mut all = Vec::new(alloc);
+    if let Some(manifest) = files.manifest.identity {
+        all.push(manifest)?;
+    }
+    for state in files.kept.states {
+        all.push(state.identity())?;
+    }
+    Ok(all)
 }
 
-impl Inputs<'_> {
-    /// Whether a file is one of these.
-    fn has(&self, identity: Identity) -> bool {
-        self.manifest == Some(identity)
-            || self.stamps.iter().any(|stamp| stamp.identity() == identity)
-    }
-
-    /// Which files these are, standard output, and the file of this name, which is written, too.
-    fn identities(&self, rt: &HostRuntime, written: Option<&str>) -> io::Result<Vec<Identity>> {
-        let mut all = Vec::new(rt.alloc());
-        for stream in [own_output::identity(rt), own_output::error_identity(rt)] {
-            if let Some(stream) = stream {
-                all.push(stream)?;
-            }
-        }
-        if let Some(name) = written
-            && let Ok(found) = fs::metadata(rt, name)
-        {
-            all.push(Identity::of(&found))?;
-        }
-        if let Some(manifest) = self.manifest {
-            all.push(manifest)?;
-        }
-        for stamp in self.stamps {
-            all.push(stamp.identity())?;
-        }
-        Ok(all)
-    }
-}
-
-/// Refuses a file that must not be written, since the image is made of it or it is standard output:
-/// then the line `ok LENGTH` would get into the image, or into a file without a name.
-fn check_output(reporter: &Reporter<'_>, name: &str, inputs: Inputs<'_>) -> Result<(), Status> {
-    if let Ok(found) = fs::metadata(reporter.rt, name) {
-        if inputs.has(Identity::of(&found)) {
-            return Err(reporter.failed(name.as_bytes(), &OWN_INPUT));
-        }
-        if own_output::is_own(reporter.rt, &found) {
-            return Err(reporter.failed(name.as_bytes(), &OWN_OUTPUT));
-        }
-        if own_output::is_own_error(reporter.rt, &found) {
-            return Err(reporter.failed(name.as_bytes(), &OWN_ERROR));
-        }
-    }
-    Ok(())
-}
-
-/// Opens the target of an image. It is neither the manifest nor a source, nor standard output.
+/// Opens the target of this name. It is none of the files that are read, nor standard output, nor
+/// the other file that is written.
 fn target_of(
-    reporter: &Reporter<'_>,
-    asked: Asked<'_>,
-    inputs: Inputs<'_>,
-) -> Result<Target, Status> {
-    let out = asked.out;
-    check_output(reporter, out, inputs)?;
-    let opened = match inputs.identities(reporter.rt, asked.depfile) {
-        Ok(inputs) => Target::open(reporter.rt, out, inputs),
-        Err(e) => Err(e),
+    rt: &HostRuntime,
+    name: &str,
+    read: &[Identity],
+    other: Option<&str>,
+) -> Result<Target, Stop> {
+    let outputs = Outputs {
+        read,
+        other,
+        shares_streams: false,
     };
-    match opened {
-        Ok(target) => {
-            explained::parts(reporter, &target);
-            Ok(target)
-        }
-        Err(e) => Err(reporter.refused(out.as_bytes(), &e)),
+    match outputs.open(rt, name) {
+        Ok(target) => Ok(target),
+        Err(why) => Err(unopened(rt.alloc(), name, why, [OWN_INPUT, OWN_OUTPUT])),
     }
 }
 
 /// Writes the rule of a build, if one is asked for. The written part does not have its name yet.
 fn rule_of(
-    reporter: &Reporter<'_>,
+    rt: &HostRuntime,
     files: Files<'_>,
-    inputs: Inputs<'_>,
+    read: &[Identity],
     image: &Target,
-) -> Result<Option<Target>, Status> {
+) -> Result<Option<Target>, Stop> {
     let Some(name) = files.asked.depfile else {
         return Ok(None);
     };
-    check_output(reporter, name, inputs)?;
-    let target = match inputs.identities(reporter.rt, Some(files.asked.out)) {
-        Ok(inputs) => Target::open(reporter.rt, name, inputs),
-        Err(e) => Err(e),
-    };
-    match target {
-        Ok(target) => Ok(Some(depfile::written(reporter, name, rule(files), target, image)?)),
-        Err(e) => Err(reporter.refused(name.as_bytes(), &e)),
-    }
+    let target = target_of(rt, name, read, Some(files.asked.out))?;
+    Ok(Some(depfile::written(rt, name, rule(files), target, image)?))
 }
 
 /// The rule of a build.
@@ -289,11 +223,11 @@ fn job_of<'a>(
     (job, Disk::new(rt, progress))
 }
 
-/// Prints why a target did not get its name.
-fn say_unkept(reporter: &Reporter<'_>, e: KeepError, name: &str) -> Status {
+/// Why a build stops if a target did not get its name.
+fn unkept(alloc: Global, e: KeepError, name: &str) -> Stop {
     match e {
-        KeepError::Refused(e) => reporter.refused(name.as_bytes(), &e),
-        KeepError::Changed => reporter.changed(name.as_bytes(), &PART_REPLACED),
+        KeepError::Refused(e) => refused(alloc, name, e),
+        KeepError::Changed => changed(alloc, name, PART_REPLACED),
     }
 }
 
@@ -304,17 +238,17 @@ struct Destination {
     rule: Option<Target>,
 }
 
-/// Builds an image through a buffer, and reports this or why it was not built.
+/// Builds an image through a buffer, and prints that this is done.
 fn put_image(
-    reporter: &Reporter<'_>,
+    rt: &HostRuntime,
     prepared: Prepared<'_>,
     destination: Destination,
     buffer: &mut [u8],
-) -> Result<(), Status>
+) -> Result<(), Stop>
     requires buffer { 4096 ≤ length buffer.old }
     requires words { length buffer.old % 4 ≡ 0 }
 {
-    let (rt, files) = (reporter.rt, prepared.files);
+    let files = prepared.files;
     let Destination { target, rule } = destination;
     let (job, opener) = job_of(rt, prepared, &target);
     let tools = Tools {
@@ -332,116 +266,123 @@ fn put_image(
         target: rule,
         fate: Fate::Open,
     };
-    let stdout = &mut Plain::new(Held::new(rt.alloc(), io::writer(rt)));
+    let stdout = &mut coloured_lines(rt);
     let Ended {
         opener: _,
         last: _,
         unread,
         result,
-    } = target.build(rt, &job, tools, &mut companion, buffer, stdout);
+    } = placing::build(
+        rt,
+        target.opened(rt),
+        &job,
+        tools,
+        &mut companion,
+        buffer,
+        stdout,
+    );
     match result {
         Ok(_) => Ok(()),
-        Err(Unbuilt::NotMade(e)) => Err(say_unmade(reporter, files, e, unread)),
-        Err(Unbuilt::NotKept(e)) => {
-            Err(say_unkept(reporter, e, files.asked.depfile.unwrap_or("")))
-        }
-        Err(Unbuilt::NotReported) => Err(reporter.say(Ending::WriteFault)),
+        Err(Unbuilt::NotMade(e)) => Err(unmade(rt, files, e, unread)),
+        Err(Unbuilt::NotKept(e)) => Err(unkept(rt.alloc(), e, files.asked.depfile.unwrap_or(""))),
+        Err(Unbuilt::NotReported) => Err(Stop::unwritten()),
     }
 }
 
-/// Reports why an image was not made, for the system's reason if a source could not be read.
-fn say_unmade(
-    reporter: &Reporter<'_>,
+/// Why a build stops if its image was not made, for the system's reason if a source could not be
+/// read.
+fn unmade(
+    rt: &HostRuntime,
     files: Files<'_>,
     e: FillError<Unwritten<Late>>,
     unread: Option<io::Error>,
-) -> Status {
-    let out = files.asked.out;
+) -> Stop {
+    let (alloc, out) = (rt.alloc(), files.asked.out);
     match e {
-        FillError::NotKept(e) => say_unkept(reporter, e, out),
-        FillError::NotWritten(Unwritten::Late(late), _) => files.say_late(reporter, late),
-        FillError::NotWritten(Unwritten::Padded, reason) => say_not_taken(reporter, reason, out),
+        FillError::NotKept(e) => unkept(alloc, e, out),
+        FillError::NotWritten(Unwritten::Late(late), _) => files.late(alloc, late),
+        FillError::NotWritten(Unwritten::Padded, reason) => not_taken(alloc, reason, out),
         FillError::NotWritten(Unwritten::Stream(e), reason) => {
-            files.say_unwritten(reporter, e, (unread, reason), out)
+            files.unwritten(rt, e, (unread, reason), out)
         }
     }
 }
 
 /// Builds an image through a large buffer, if there is memory for it.
 fn write_image(
-    reporter: &Reporter<'_>,
+    rt: &HostRuntime,
     prepared: Prepared<'_>,
     destination: Destination,
-) -> Result<(), Status> {
-    match buffer_of(reporter.rt, LARGE) {
-        Some(mut buffer) => put_image(reporter, prepared, destination, buffer.as_mut_slice()),
+) -> Result<(), Stop> {
+    match buffer_of(rt, LARGE) {
+        Some(mut buffer) => put_image(rt, prepared, destination, buffer.as_mut_slice()),
         None => {
             let mut buffer: [u8; 4096] = [0; 4096];
-            put_image(reporter, prepared, destination, buffer.as_mut_slice())
+            put_image(rt, prepared, destination, buffer.as_mut_slice())
         }
     }
 }
 
 /// Refuses a plan whose image is longer than it may be.
-fn check_size(reporter: &Reporter<'_>, asked: Asked<'_>, plan: &Plan) -> Result<(), Status>
+fn check_size(alloc: Global, asked: Asked<'_>, plan: &Plan) -> Result<(), Stop>
     ensures { OnOk result (IsWithin (most_of asked.entry.wanted) plan.now.image_len) }
 {
     let len = plan.image_len() as u64;
     match most_bytes(&asked.wanted) {
-        Some(most) if len > most => {
-            let stdout = &mut Plain::new(Held::new(reporter.rt.alloc(), io::writer(reporter.rt)));
-            let status = printed(reporter, print_size(stdout, len, most));
-            warned::explain_size(reporter, asked.out, len, most);
-            Err(status)
-        }
+        Some(most) if len > most => Err(Stop::TooLarge {
+            out: String::from_str(alloc, asked.out)?,
+            len,
+            most,
+        }),
         _ => Ok(()),
     }
 }
 
-/// Returns the warnings for the planned image, and the first one if there is one. A strict build
-/// refuses the image then.
+/// Returns the warnings for the planned image if something is to be said of them, and the first one
+/// if there is one. A strict build refuses the image then.
 fn warnings_of<'m>(
     reporter: &Reporter<'_>,
     asked: Asked<'_>,
     origin: Origin<'m>,
     sizes: &[u64],
-) -> Result<(Warnings<'m>, Option<Misread>), Status>
+) -> Result<(Option<Warnings<'m>>, Option<Misread>), Stop>
     requires { length sizes.now ≡ length (sources_of origin.manifest.now.lines) }
     ensures { IfOk result (λ found. asked.entry.wanted.strict ≡ true → found.1 ≡ None) }
 {
+    if !asked.wanted.strict && !reporter.is_explained() {
+        return Ok((None, None));
+    }
     let alloc = reporter.rt.alloc();
-    let Ok(warnings) = foreseen(alloc, asked.wanted.format, origin.manifest, sizes) else {
-        return Err(reporter.say(Ending::Memory));
-    };
+    let warnings = foreseen(alloc, asked.wanted.format, origin.manifest, sizes)?;
     match warnings.least() {
         Some(Misread { line, number }) if asked.wanted.strict => {
-            let out = &mut Plain::new(Held::new(alloc, io::writer(reporter.rt)));
-            let status = printed(reporter, print_strict(out, line, number));
-            warned::explain(reporter, origin, &warnings, "");
-            Err(status)
+            let status = reporter.printed(print_strict(&mut lines(reporter.rt), line, number));
+            warned::explain(reporter, origin, sizes, &warnings, "");
+            Err(Stop::Said(status))
         }
-        least => Ok((warnings, least)),
+        least => Ok((Some(warnings), least)),
     }
 }
 
 /// Returns the programs of a planned image, if something is to be said of them: `--xip`, or the
 /// table of a scan that is explained.
 fn programs_in(
-    reporter: &Reporter<'_>,
+    rt: &HostRuntime,
     asked: Asked<'_>,
     plan: &Plan,
     files: Files<'_>,
-) -> Result<Option<Programs>, Status>
+    is_explained: bool,
+) -> Result<Option<Programs>, Stop>
     ensures { IfOk result (λ programs. asked.entry.wanted.xip ≡ true → programs ≢ None) }
 {
-    let is_told = files.origin.scanned.is_some() && reporter.is_explained();
+    let is_told = files.origin.scanned.is_some() && is_explained;
     if !asked.wanted.xip && !is_told {
         return Ok(None);
     }
-    match programs_of(reporter.rt, plan, files.origin, files.names, files.stamps) {
+    match programs_of(rt, plan, files.origin, files.names, files.stamps) {
         Ok(programs) => Ok(Some(programs)),
-        Err(Unknown::Memory) => Err(reporter.say(Ending::Memory)),
-        Err(Unknown::Source(file, e)) => Err(files.say_fault(reporter, file, Some(e))),
+        Err(Unknown::Memory) => Err(Stop::Memory),
+        Err(Unknown::Source(file, e)) => Err(files.fault(rt, file, Some(e))),
     }
 }
 
@@ -452,7 +393,7 @@ fn check_programs(
     asked: Asked<'_>,
     origin: Origin<'_>,
     programs: &Option<Programs>,
-) -> Result<Option<u64>, Status>
+) -> Result<Option<u64>, Stop>
     requires { asked.wanted.xip ≡ true → programs.now ≢ None }
     ensures { IfOk result (λ programs. asked.entry.wanted.xip ≡ true → programs ≢ None) }
 {
@@ -462,82 +403,70 @@ fn check_programs(
     };
     match programs.unplaced.first() {
         Some(first) if asked.wanted.xip => {
-            let rt = reporter.rt;
-            let out = &mut Plain::new(Held::new(rt.alloc(), io::writer(rt)));
-            let word = first.reason.word();
-            let status = printed(reporter, print_xip(out, first.line, word, &first.path));
+            let (out, word) = (&mut lines(reporter.rt), first.reason.word());
+            let status = reporter.printed(print_xip(out, first.line, word, &first.path));
             warned::explain_unplaced(reporter, origin, first);
-            Err(status)
+            Err(Stop::Said(status))
         }
         _ => Ok(Some(programs.count)),
     }
 }
 
 /// Builds an image in the file that is asked for, and the rule if one is.
-fn write_files(reporter: &Reporter<'_>, prepared: Prepared<'_>) -> Result<(), Status> {
-    let files = prepared.files;
+fn write_files(reporter: &Reporter<'_>, prepared: Prepared<'_>) -> Result<(), Stop> {
+    let (rt, files) = (reporter.rt, prepared.files);
     let asked = files.asked;
-    let inputs = Inputs {
-        manifest: files.manifest.identity,
-        stamps: files.kept.states,
-    };
     if let Some(name) = asked.depfile {
-        depfile::check(reporter, name, rule(files))?;
+        depfile::check(rt, name, rule(files))?;
     }
-    let target = target_of(reporter, asked, inputs)?;
-    let rule = match rule_of(reporter, files, inputs, &target) {
+    let read = inputs_of(rt.alloc(), files)?;
+    let target = target_of(rt, asked.out, &read, asked.depfile)?;
+    let mut words = reporter.words();
+    explained::parts(&mut words, &target);
+    reporter.tell(&words);
+    let rule = match rule_of(rt, files, &read, &target) {
         Ok(rule) => rule,
-        Err(status) => {
-            target.abandon(reporter.rt);
-            return Err(status);
+        Err(stop) => {
+            target.abandon(rt);
+            return Err(stop);
         }
     };
-    let_rest(reporter.rt, files.kept.states);
-    write_image(reporter, prepared, Destination { target, rule })
+    let_rest(rt, files.kept.states);
+    write_image(rt, prepared, Destination { target, rule })
 }
 
 /// An image that was built: the numbers of bytes of the image and of each source.
 #[derive(Drop)]
 pub struct Built {
     pub len: u64,
+    pub shares: Shares,
     pub sizes: Vec<u64>,
     /// Its programs, if they were looked at.
     pub programs: Option<Programs>,
 }
 
-/// What was kept, if there was memory for it. Reports that there was none.
-fn kept_of<T: Drop>(
-    reporter: &Reporter<'_>,
-    kept: Result<Vec<T>, AllocError>,
-) -> Result<Vec<T>, Status> {
-    match kept {
-        Ok(kept) => Ok(kept),
-        Err(_) => Err(reporter.say(Ending::Memory)),
-    }
-}
-
-/// The names and the states of the files that have to keep their states.
-fn kept_files(
-    reporter: &Reporter<'_>,
-    names: &[&str],
-    stamps: &[Stamp],
-    watched: &[Watched],
-) -> Result<(Vec<String>, Vec<Stamp>), Status> {
-    let alloc = reporter.rt.alloc();
-    let kept = kept_of(reporter, kept_names(alloc, names, watched))?;
-    let states = kept_of(reporter, kept_states(alloc, stamps, watched))?;
-    Ok((kept, states))
-}
-
 /// Names as texts.
-fn as_texts<'n>(reporter: &Reporter<'_>, names: &'n [String]) -> Result<Vec<&'n str>, Status> {
-    let mut texts = Vec::new(reporter.rt.alloc());
+fn as_texts<'n>(alloc: Global, names: &'n [String]) -> Result<Vec<&'n str>, AllocError> {
+    let mut texts = Vec::new(alloc);
     for name in names {
-        if texts.push(name.as_str()).is_err() {
-            return Err(reporter.say(Ending::Memory));
-        }
+        texts.push(name.as_str())?;
     }
     Ok(texts)
+}
+
+/// The states of the sources, or why the build stops without them.
+fn states_of(
+    rt: &HostRuntime,
+    origin: Origin<'_>,
+    names: &[&str],
+    words: Words,
+) -> Result<Vec<Stamp>, Stop>
+    ensures { IfOk result (λ stamps. length stamps.items ≡ length names.now) }
+{
+    match stamps_of(rt, origin, names) {
+        Ok(stamps) => Ok(stamps),
+        Err(e) => Err(unusable_sources(rt, origin, e, words)),
+    }
 }
 
 /// Builds the image of a manifest, whose text is in this file, and whose sources have these names.
@@ -547,17 +476,19 @@ fn build_from<'a>(
     origin: Origin<'a>,
     names: &'a [&'a str],
     manifest: TextFile,
-) -> Result<Built, Status>
+) -> Result<Built, Stop>
     requires { map (λ n. n.now) names.now ≡ opened_as (option_map (λ d. d.now) asked.wanted.sources)
         (sources_of origin.manifest.now.lines) }
 {
-    let stamps = stamps_of(reporter, origin, names)?;
-    let sizes = sizes_of(reporter, &stamps)?;
-    let plan = planned(reporter, asked.wanted.format, origin, &sizes)?;
-    check_size(reporter, asked, &plan)?;
+    let (rt, alloc) = (reporter.rt, reporter.rt.alloc());
+    let stamps = states_of(rt, origin, names, reporter.words())?;
+    let sizes = sizes_of(alloc, &stamps)?;
+    let plan = planned(asked.wanted.format, origin, &sizes, reporter.words())?;
+    check_size(alloc, asked, &plan)?;
     let (warnings, misread) = warnings_of(reporter, asked, origin, &sizes)?;
-    let (owned, states) = kept_files(reporter, names, &stamps, origin.watched())?;
-    let kept = as_texts(reporter, &owned)?;
+    let owned = kept_names(alloc, names, origin.watched())?;
+    let states = kept_states(alloc, &stamps, origin.watched())?;
+    let kept = as_texts(alloc, &owned)?;
     let others = origin.watched().iter().filter(|file| !file.is_source);
     let kept = Kept {
         names: &kept,
@@ -572,7 +503,7 @@ fn build_from<'a>(
         stamps: &stamps,
         kept,
     };
-    let found = programs_in(reporter, asked, &plan, files)?;
+    let found = programs_in(rt, asked, &plan, files, reporter.is_explained())?;
     let programs = check_programs(reporter, asked, origin, &found)?;
     let prepared = Prepared {
         plan: &plan,
@@ -580,9 +511,12 @@ fn build_from<'a>(
         foreseen: Foreseen { misread, programs },
     };
     write_files(reporter, prepared)?;
-    warned::explain(reporter, origin, &warnings, "warning: ");
+    if let Some(warnings) = &warnings {
+        warned::explain(reporter, origin, &sizes, warnings, "warning: ");
+    }
     Ok(Built {
         len: plan.image_len() as u64,
+        shares: Shares::of(&plan),
         sizes,
         programs: found,
     })
@@ -604,7 +538,7 @@ fn build_plain<'a>(
     asked: Asked<'a>,
     given: Given<'a>,
     scanned: Option<&'a ScannedText>,
-) -> Result<Built, Status>
+) -> Result<Built, Stop>
     requires { asked.wanted.sources ≡ None }
 {
     let Given {
@@ -620,7 +554,10 @@ fn build_plain<'a>(
         no_follow: asked.no_follow,
         scanned,
     };
-    let names = names_of(reporter, origin, manifest.sources())?;
+    let names = match names_of(reporter.rt.alloc(), manifest.sources()) {
+        Ok(names) => names,
+        Err(e) => return Err(unusable_sources(reporter.rt, origin, e, reporter.words())),
+    };
     build_from(reporter, asked, origin, &names, file)
 }
 
@@ -630,7 +567,7 @@ fn build_joined<'a>(
     asked: Asked<'a>,
     joined: &'a [Vec<u8>],
     given: Given<'a>,
-) -> Result<(), Status>
+) -> Result<(), Stop>
     requires { map (λ j. j.items) joined.now ≡ opened_as
         (option_map (λ d. d.now) asked.wanted.sources) (sources_of given.manifest.now.lines) }
 {
@@ -647,7 +584,10 @@ fn build_joined<'a>(
         no_follow: asked.no_follow,
         scanned: None,
     };
-    let names = texts_of(reporter, origin, joined)?;
+    let names = match texts_of(reporter.rt.alloc(), joined) {
+        Ok(names) => names,
+        Err(e) => return Err(unusable_sources(reporter.rt, origin, e, reporter.words())),
+    };
     build_from(reporter, asked, origin, &names, file)?;
     Ok(())
 }
@@ -658,17 +598,26 @@ fn build_in(
     asked: Asked<'_>,
     directory: &str,
     given: Given<'_>,
-) -> Result<(), Status>
+) -> Result<(), Stop>
     requires { option_map (λ d. d.now) asked.wanted.sources ≡ Some directory.now }
 {
-    let joined = joined_names(reporter, directory, given.manifest.sources())?;
+    let joined = joined_names(reporter.rt.alloc(), directory, given.manifest.sources())?;
     build_joined(reporter, asked, &joined, given)
 }
 
-/// Builds what is asked for, and reports the result.
-fn build(reporter: &Reporter<'_>, asked: Asked<'_>) -> Result<Status, Status> {
-    let text = text_of(reporter, asked.manifest)?;
-    let manifest = manifest_of(reporter, asked.manifest, &text.bytes)?;
+/// Builds what is asked for, and prints the result. Explains warnings.
+///
+/// # Errors
+///
+/// Any stop.
+#[inline(never)]
+pub fn run(reporter: &Reporter<'_>, asked: Build<'_>) -> Result<Status, Stop> {
+    let asked = Asked::by(asked);
+    let text = text_of(reporter.rt, asked.manifest)?;
+    let mut words = reporter.words();
+    explained::returns(&mut words, asked.manifest, &text.bytes);
+    reporter.tell(&words);
+    let manifest = manifest_of(asked.manifest, &text.bytes, reporter.words())?;
     let given = Given {
         text: &text.bytes,
         manifest: &manifest,
@@ -683,14 +632,18 @@ fn build(reporter: &Reporter<'_>, asked: Asked<'_>) -> Result<Status, Status> {
     Ok(Status::Done)
 }
 
-/// Builds the image of directories that were scanned, and reports the result and what the image has
-/// in it. The manifest's text may also be in this file. Returns the status.
+/// Builds the image of directories that were scanned, prints the result, and explains what the
+/// image has in it. The manifest's text may also be in this file.
+///
+/// # Errors
+///
+/// Any stop.
 pub fn build_scanned(
     reporter: &Reporter<'_>,
     asked: Build<'_>,
     scanned: &ScannedText,
     file: Option<Identity>,
-) -> Result<Status, Status> {
+) -> Result<Status, Stop> {
     let asked = Asked::by(asked);
     let asked = Asked {
         wanted: Wanted {
@@ -699,7 +652,7 @@ pub fn build_scanned(
         },
         ..asked
     };
-    let manifest = manifest_of(reporter, asked.manifest, &scanned.text)?;
+    let manifest = manifest_of(asked.manifest, &scanned.text, reporter.words())?;
     let given = Given {
         text: &scanned.text,
         manifest: &manifest,
@@ -711,12 +664,4 @@ pub fn build_scanned(
     let built = build_plain(reporter, asked, given, Some(scanned))?;
     contents::explain(reporter, asked, &manifest, &built);
     Ok(Status::Done)
-}
-
-/// Builds what is asked for, reports the result, and returns the status.
-pub fn run(reporter: &Reporter<'_>, asked: Build<'_>) -> Status {
-    match build(reporter, Asked::by(asked)) {
-        Ok(status) => status,
-        Err(status) => status,
-    }
 }

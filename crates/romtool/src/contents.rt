@@ -6,6 +6,7 @@ use crate::reporter::Reporter;
 use crate::warned::reason_sentence;
 use build_commands::most_bytes;
 use manifest::{Line, Manifest, Word};
+use plan_types::{Body, Plan};
 use sentences::words::{escaped, shown};
 use std::alloc::{AllocError, Global};
 
@@ -85,6 +86,33 @@ fn by_size<'m>(
     Ok(found)
 }
 
+/// How many bytes of a planned image are contents of files, and how many are padding.
+#[derive(Clone, Copy, Default)]
+pub struct Shares {
+    pub contents: u64,
+    pub padding: u64,
+}
+
+impl Shares {
+    /// Returns the shares of a planned image.
+    pub fn of(plan: &Plan) -> Shares {
+        let mut shares = Shares {
+            contents: 0,
+            padding: plan.image_len() as u64,
+        };
+        for index in 0..plan.sections() {
+            if let Some(section) = plan.section(index) {
+                let len = u64::from(section.len);
+                shares.padding = shares.padding.saturating_sub(len);
+                if let Body::Content { .. } = section.body {
+                    shares.contents = shares.contents.saturating_add(len);
+                }
+            }
+        }
+        shares
+    }
+}
+
 /// Adds a row: a number of bytes, and what they are.
 fn add_row(text: &mut String, alloc: Global, bytes: u64, what: &str) -> Result<(), AllocError> {
     text.push_str(&format!(in alloc; "{bytes:>14}  {what}\n")?)
@@ -160,18 +188,13 @@ fn table(
     );
     let counts = Counts::of(manifest).row(alloc)?;
     let (len, sizes) = (built.len, built.sizes.as_slice());
-    let contents = sizes
-        .iter()
-        .fold(0, |sum: u64, size| sum.saturating_add(*size));
+    let Shares { contents, padding } = built.shares;
+    let tables = len.saturating_sub(contents).saturating_sub(padding);
     let mut text = format!(in alloc; "romtool: {out}: {format}, {counts}\n")?;
     add_row(&mut text, alloc, len, "the image")?;
     add_row(&mut text, alloc, contents, "contents of files")?;
-    add_row(
-        &mut text,
-        alloc,
-        len.saturating_sub(contents),
-        "names, tables and padding",
-    )?;
+    add_row(&mut text, alloc, tables, "names and tables")?;
+    add_row(&mut text, alloc, padding, "padding")?;
     if let Some(most) = most_bytes(&asked.wanted) {
         add_row(
             &mut text,

@@ -1,52 +1,30 @@
 //! Whether scanned directories changed.
-ghost use Rattle.std.specs.Prelude.{⊤};
-
-use crate::reporter::Reporter;
 use build_commands::Recheck;
 use directory_walk::Directory;
-use rom_commands::Status;
-use sentences::reasons::FOLDER_CHANGED;
-use system_files::{Stamp, opened_name, state_of};
+use system_files::{FileError, Stamp, directories_stayed};
 
-/// Reports that a directory changed since it was found, if it did.
-fn stayed(reporter: &Reporter<'_>, top: &str, directory: &Directory<Stamp>) -> Result<(), Status> {
-    let name = opened_name(directory, top).as_bytes();
-    match state_of(reporter.rt, directory, top) {
-        Ok(state) if state == directory.state => Ok(()),
-        Ok(_) => Err(reporter.failed(name, &FOLDER_CHANGED)),
-        Err(e) => Err(reporter.refused(name, &e)),
-    }
-}
-
-/// Reports which of the directories below `top` changed, if one did. Then the names that were found
-/// did not all exist at one time.
-pub fn all_stayed(
-    reporter: &Reporter<'_>,
-    top: &str,
-    directories: &[Directory<Stamp>],
-) -> Result<(), Status> {
-    for directory in directories {
-        stayed(reporter, top, directory)?;
-    }
-    Ok(())
-}
-
-/// The directories of the system below `top`, which are looked at again.
+/// The directories of the system below `top`, which are looked at again, and whether the system
+/// reported of so many that they are as they were found.
 #[derive(Drop)]
 pub struct Again<'a> {
-    pub reporter: &'a Reporter<'a>,
+    pub rt: &'a HostRuntime,
     pub top: &'a str,
+    pub stayed: Option<usize>,
 }
 
 impl Recheck for Again<'_> {
+    ghost use Rattle.std.specs.Prelude.{◌≡◌, Some, length};
+
     type State = Stamp;
 
-    type Error = Status;
+    type Error = FileError;
 
-    // They may change at any time.
-    ghost as_found = { λ _ _. ⊤ };
+    // What the system answered. They may change at any time.
+    ghost as_found = { λ again directories. again.stayed ≡ Some (length directories) };
 
-    fn check(&mut self, directories: &[Directory<Stamp>]) -> Result<(), Status> {
-        all_stayed(self.reporter, self.top, directories)
+    fn check(&mut self, directories: &[Directory<Stamp>]) -> Result<(), FileError> {
+        directories_stayed(self.rt, self.top, directories)?;
+        self.stayed = Some(directories.len());
+        Ok(())
     }
 }

@@ -12,9 +12,10 @@ use program_streams::{Ahead, read_until};
 use rom_fields::Plain;
 use rom_tree::TreeImage;
 use std::alloc::AllocError;
-use std::fs::{File, OpenFile};
+use std::fs::File;
 use std::io::{self, BufReader, Seek, SeekFrom};
 use std::str;
+use system_files::open;
 
 /// The number of bytes by which the front of an image is found in a dump.
 const FRONT: usize = 64;
@@ -33,7 +34,7 @@ impl Dump for DumpFile<'_> {
     type Reader = Ahead<BufReader<File>>;
 
     fn open(self, offset: u64) -> io::Result<(Ahead<BufReader<File>>, u64)> {
-        let mut file = File::open(self.rt, self.name)?;
+        let mut file = open(self.rt, self.name)?;
         // a pipe, for example, is read from its beginning on
         let before = match file.seek(SeekFrom::Start(offset)) {
             Ok(_) => 0,
@@ -46,7 +47,7 @@ impl Dump for DumpFile<'_> {
 /// The offset in the dump at which the image begins, if its front is there.
 fn offset_in(rt: &HostRuntime, dump: &str, image: &[u8]) -> Option<usize> {
     let front = image.get(..FRONT)?;
-    let mut file = File::open(rt, dump).ok()?;
+    let mut file = open(rt, dump).ok()?;
     let len = file.metadata().ok()?.len().min(SEARCHED);
     let mut bytes = Vec::new(rt.alloc());
     read_until(&mut file, &mut bytes, SEARCHED, len).ok()?;

@@ -1,18 +1,8 @@
 //! Regular files with equal bytes, which share their contents in an image.
-use crate::aligning::open_found;
-use crate::reporter::Reporter;
-use crate::watched::{Watched, all_stayed};
+use crate::stop::{Stop, named, refused};
 use build_commands::inventory::{FileKind, Inode, NamedFile};
-use rom_commands::{Ending, Status};
-use sentences::reasons::FOLDER_CHANGED;
-use sha2::{Digest, Sha256};
 use std::collections::BTreeMap;
-use std::fs;
-use std::io::{self, Read};
-use system_files::Stamp;
-
-/// The number of bytes of a file that are read at once.
-const PART: usize = 16_384;
+use system_files::{Digested, Identity, Reason, Watched, digest_of, files_stayed, unlinked};
 
 /// The most bytes of a file in a cramfs image.
 const MOST_BYTES: u64 = (1 << 24) - 1;
@@ -46,9 +36,6 @@ struct Candidate {
     index: usize,
 }
 
-/// The SHA-256 of a file, and the state that it had from the first byte to the last.
-type Digested = ([u8; 32], Stamp);
-
 /// What was read of the files: the file of each shape and digest that was found first, and what was
 /// read of each file with several links, by its device and number.
 #[derive(Drop)]
@@ -59,48 +46,20 @@ struct Compared {
 
 /// The regular files that have bytes and fit into an image, sorted by their shapes. Files of one
 /// shape stay in their order.
-fn candidates(reporter: &Reporter<'_>, found: &[NamedFile]) -> Result<Vec<Candidate>, Status> {
-    let rt = reporter.rt;
+fn candidates(rt: &HostRuntime, found: &[NamedFile]) -> Result<Vec<Candidate>, Stop> {
     let mut all = Vec::new(rt.alloc());
     for (index, file) in found.iter().enumerate() {
         if !matches!(file.kind, FileKind::Regular) {
             continue;
         }
-        let shape = match fs::symlink_metadata(rt, &file.place) {
-            Ok(now) => Shape::of(file, now.len()),
-            Err(e) => return Err(reporter.refused(file.place.as_bytes(), &e)),
-        };
-        let is_stored = shape.len > 0 && shape.len <= MOST_BYTES;
-        if is_stored && all.push(Candidate { shape, index }).is_err() {
-            return Err(reporter.say(Ending::Memory));
+        let now = unlinked(rt, &file.place);
+        let shape = Shape::of(file, named(rt.alloc(), &file.place, now)?.len());
+        if shape.len > 0 && shape.len <= MOST_BYTES {
+            all.push(Candidate { shape, index })?;
         }
     }
-    match all.sort_by(|a: &Candidate, b: &Candidate| a.shape.cmp(&b.shape)) {
-        Ok(()) => Ok(all),
-        Err(_) => Err(reporter.say(Ending::Memory)),
-    }
-}
-
-/// What is read of a file, or none if it was not in one state.
-fn digest_of(rt: &HostRuntime, file: &NamedFile, len: u64) -> io::Result<Option<Digested>> {
-    let mut opened = open_found(rt, file)?;
-    let was = Stamp::of(&opened.metadata()?);
-    let (mut hasher, mut read) = (Sha256::new(), 0u64);
-    let mut part = [0u8; PART];
-    for _ in 0..u64::MAX {
-        let count = opened.read(&mut part)?;
-        if count == 0 {
-            break;
-        }
-        hasher.update(part.get(..count).unwrap_or(&[]));
-        read = read.saturating_add(count as u64);
-    }
-    let is_still = read == len && Stamp::of(&opened.metadata()?) == was;
-    Ok(if is_still {
-        Some((hasher.finalize(), was))
-    } else {
-        None
-    })
+    all.sort_by(|a: &Candidate, b: &Candidate| a.shape.cmp(&b.shape))?;
+    Ok(all)
 }
 
 /// Whether the candidate at an index has the shape of the one before it or behind it.
@@ -124,27 +83,27 @@ fn join(found: &mut [NamedFile], first: usize, index: usize) {
     }
 }
 
-/// What is read of a file, which is read once if it has several links. Reports a file that cannot
-/// be read, or that changes meanwhile.
+/// What is read of a file, which is read once if it has several links. It must not change
+/// meanwhile.
 fn digested(
-    reporter: &Reporter<'_>,
+    rt: &HostRuntime,
     file: &NamedFile,
     len: u64,
     compared: &mut Compared,
-) -> Result<Digested, Status> {
+) -> Result<Digested, Stop> {
     let key = (file.inode.device, file.inode.number);
     if file.has_links
         && let Some(read) = compared.by_inode.get(&key)
     {
         return Ok(*read);
     }
-    let read = match digest_of(reporter.rt, file, len) {
-        Ok(Some(read)) => read,
-        Ok(None) => return Err(reporter.failed(file.place.as_bytes(), &FOLDER_CHANGED)),
-        Err(e) => return Err(reporter.refused(file.place.as_bytes(), &e)),
+    let found = Identity::at(file.inode.device, file.inode.number);
+    let read = digest_of(rt, &file.place, found, len);
+    let Some(read) = named(rt.alloc(), &file.place, read)? else {
+        return Err(refused(rt.alloc(), &file.place, Reason::ScanChanged));
     };
-    if file.has_links && compared.by_inode.insert(key, read).is_err() {
-        return Err(reporter.say(Ending::Memory));
+    if file.has_links {
+        compared.by_inode.insert(key, read)?;
     }
     Ok(read)
 }
@@ -152,51 +111,44 @@ fn digested(
 /// Makes a candidate a further name of the first file with equal bytes, if there is one, and notes
 /// the state in which it was compared.
 fn share_one(
-    reporter: &Reporter<'_>,
+    rt: &HostRuntime,
     found: &mut [NamedFile],
     compared: &mut Compared,
     candidate: Candidate,
     watched: &mut Vec<Watched>,
-) -> Result<(), Status> {
+) -> Result<(), Stop> {
     let Candidate { shape, index } = candidate;
     let Some(file) = found.get(index) else {
         return Ok(());
     };
-    let (digest, state) = digested(reporter, file, shape.len, compared)?;
-    let Ok(name) = String::from_str(reporter.rt.alloc(), &file.place) else {
-        return Err(reporter.say(Ending::Memory));
-    };
+    let (digest, state) = digested(rt, file, shape.len, compared)?;
+    let name = String::from_str(rt.alloc(), &file.place)?;
     let key = (shape, digest);
     let first = compared.firsts.get(&key).copied();
-    let is_noted = match first {
-        Some(first) => {
-            join(found, first, index);
-            true
+    match first {
+        Some(first) => join(found, first, index),
+        None => {
+            compared.firsts.insert(key, index)?;
         }
-        None => compared.firsts.insert(key, index).is_ok(),
-    };
-    let is_source = first.is_none();
-    let file = Watched {
+    }
+    watched.push(Watched {
         name,
         state,
-        is_source,
-    };
-    if is_noted && watched.push(file).is_ok() {
-        Ok(())
-    } else {
-        Err(reporter.say(Ending::Memory))
-    }
+        is_source: first.is_none(),
+    })?;
+    Ok(())
 }
 
 /// Makes each regular file whose bytes and attributes are those of an earlier one a further name of
 /// it, so that the manifest stores the bytes once, and returns the files that were read: those of
-/// equal length. Reports a file that cannot be read, or that changes meanwhile.
-pub fn share_equal(
-    reporter: &Reporter<'_>,
-    found: &mut [NamedFile],
-) -> Result<Vec<Watched>, Status> {
-    let all = candidates(reporter, found)?;
-    let alloc = reporter.rt.alloc();
+/// equal length.
+///
+/// # Errors
+///
+/// `Failed` for a file that changes meanwhile; `Refused`, `Memory`.
+pub fn share_equal(rt: &HostRuntime, found: &mut [NamedFile]) -> Result<Vec<Watched>, Stop> {
+    let all = candidates(rt, found)?;
+    let alloc = rt.alloc();
     let mut watched = Vec::new(alloc);
     let mut compared = Compared {
         firsts: BTreeMap::new(alloc),
@@ -204,9 +156,9 @@ pub fn share_equal(
     };
     for (at, candidate) in all.iter().enumerate() {
         if has_equal_shape(&all, at) {
-            share_one(reporter, found, &mut compared, *candidate, &mut watched)?;
+            share_one(rt, found, &mut compared, *candidate, &mut watched)?;
         }
     }
-    all_stayed(reporter, &watched)?;
+    files_stayed(rt, &watched)?;
     Ok(watched)
 }

@@ -1,9 +1,9 @@
-//! What a build explains in words for people: why a manifest is refused, and warnings.
+//! What a build says in words for people: why a manifest is refused, and warnings.
 ghost use Rattle.std.specs.Prelude.{◌≡◌, length};
 ghost use Rattle.manifest.specs.Lines.{sources_of};
 
 use crate::origin::Origin;
-use crate::reporter::Reporter;
+use crate::words::Words;
 use layout_plan::misfits;
 use manifest::bad_lines;
 use plan_types::Format;
@@ -15,111 +15,107 @@ use system_files::{Others, Target, part_path};
 /// The most lines that are bad or do not fit of which each is explained, beside the first.
 const MOST_SAID: usize = 19;
 
-/// Explains a line of a manifest. Line 0 is the whole.
+/// Adds what is said of a line of a manifest. Line 0 is the whole.
 fn of_line<W: Display>(
-    reporter: &Reporter<'_>,
+    words: &mut Words,
     manifest: &str,
     line: u64,
     what: &W,
 ) -> Result<(), AllocError> {
-    let alloc = reporter.rt.alloc();
+    let alloc = words.alloc();
     let place = if line == 0 {
         String::from_str(alloc, manifest)?
     } else {
         format!(in alloc; "{manifest}:{line}")?
     };
-    reporter.explain(place.as_bytes(), what);
+    words.add(place.as_bytes(), what);
     Ok(())
 }
 
-/// Explains which fault a line of a text has, for which the text is no manifest.
-pub fn bad_manifest(reporter: &Reporter<'_>, manifest: &str, text: &[u8], line: u64, number: u32) {
-    if reporter.is_explained() {
-        let _ = try_bad_manifest(reporter, manifest, text, line, number);
+/// Adds which fault a line of a text has, for which the text is no manifest.
+pub fn bad_manifest(words: &mut Words, manifest: &str, text: &[u8], line: u64, number: u32) {
+    if words.are_asked() {
+        let _ = try_bad_manifest(words, manifest, text, line, number);
     }
 }
 
 fn try_bad_manifest(
-    reporter: &Reporter<'_>,
+    words: &mut Words,
     manifest: &str,
     text: &[u8],
     line: u64,
     number: u32,
 ) -> Result<(), AllocError> {
-    let alloc = reporter.rt.alloc();
+    let alloc = words.alloc();
     let (name, sentence) = (manifest::name(number), manifest_sentence(number));
     let seen = manifest_line::seen(alloc, text, line, number)?;
     let what = format!(in alloc; "{name} ({number}): {sentence}: {seen}")?;
-    of_line(reporter, manifest, line, &what)
+    of_line(words, manifest, line, &what)
 }
 
-/// Explains which lines of a text are bad after the first one: some of them one by one, and then
-/// how many more. A bad line counts as one that makes its path.
-pub fn other_bad_lines(reporter: &Reporter<'_>, manifest: &str, text: &[u8]) {
-    if reporter.is_explained() {
-        let _ = try_other_bad_lines(reporter, manifest, text);
+/// Adds which lines of a text are bad after the first one: some of them one by one, and then how
+/// many more. A bad line counts as one that makes its path.
+pub fn other_bad_lines(words: &mut Words, manifest: &str, text: &[u8]) {
+    if words.are_asked() {
+        let _ = try_other_bad_lines(words, manifest, text);
     }
 }
 
-fn try_other_bad_lines(
-    reporter: &Reporter<'_>,
-    manifest: &str,
-    text: &[u8],
-) -> Result<(), AllocError> {
-    let alloc = reporter.rt.alloc();
+fn try_other_bad_lines(words: &mut Words, manifest: &str, text: &[u8]) -> Result<(), AllocError> {
+    let alloc = words.alloc();
     let Ok(all) = bad_lines(alloc, text) else {
         return Err(AllocError);
     };
     for other in all.iter().skip(1).take(MOST_SAID) {
-        try_bad_manifest(reporter, manifest, text, other.line, other.number)?;
+        try_bad_manifest(words, manifest, text, other.line, other.number)?;
     }
     let more = all.len().saturating_sub(MOST_SAID.saturating_add(1));
     if more > 0 {
         let what = format!(in alloc; "{more} more lines are bad")?;
-        reporter.explain(manifest.as_bytes(), &what);
+        words.add(manifest.as_bytes(), &what);
     }
     Ok(())
 }
 
-/// Explains why a line of a text is refused.
-pub fn bad_line(reporter: &Reporter<'_>, manifest: &str, line: u64, reason: &'static str) {
-    if reporter.is_explained() {
-        let _ = of_line(reporter, manifest, line, &reason);
+/// Adds why a line of a text is refused.
+pub fn bad_line(words: &mut Words, manifest: &str, line: u64, reason: &'static str) {
+    if words.are_asked() {
+        let _ = of_line(words, manifest, line, &reason);
     }
 }
 
-/// Explains what does not fit a format in a manifest.
+/// Adds what does not fit a format in a manifest.
 pub fn misfit(
-    reporter: &Reporter<'_>,
+    words: &mut Words,
     format: Format,
     origin: Origin<'_>,
     sizes: &[u64],
     misfit: (u64, u32),
 ) {
-    if reporter.is_explained() {
-        let _ = try_misfit(reporter, format, origin, sizes, misfit);
+    if words.are_asked() {
+        let _ = try_misfit(words, format, origin, sizes, misfit);
     }
 }
 
 fn try_misfit(
-    reporter: &Reporter<'_>,
+    words: &mut Words,
     format: Format,
     origin: Origin<'_>,
     sizes: &[u64],
     misfit: (u64, u32),
 ) -> Result<(), AllocError> {
-    let alloc = reporter.rt.alloc();
+    let alloc = words.alloc();
     let (line, number) = misfit;
     let (name, sentence) = (layout_plan::name(number), misfit_sentence(number));
     let seen = plan_line::seen(alloc, format, origin.manifest, sizes, misfit)?;
     let what = format!(in alloc; "{name} ({number}): {sentence}: {seen}")?;
-    of_line(reporter, origin.name, line, &what)
+    of_line(words, origin.name, line, &what)
 }
 
-/// Explains which lines do not fit a format after the first one: some of them one by one, and then
-/// how many more.
+/// Adds which lines do not fit a format after the first one: some of them one by one, and then how
+/// many more.
 pub fn other_misfits(
-    reporter: &Reporter<'_>,
+    words: &mut Words,
     format: Format,
     origin: Origin<'_>,
     sizes: &[u64],
@@ -127,13 +123,13 @@ pub fn other_misfits(
 )
     requires { length sizes.now ≡ length (sources_of origin.manifest.now.lines) }
 {
-    if reporter.is_explained() {
-        let _ = try_other_misfits(reporter, format, origin, sizes, first);
+    if words.are_asked() {
+        let _ = try_other_misfits(words, format, origin, sizes, first);
     }
 }
 
 fn try_other_misfits(
-    reporter: &Reporter<'_>,
+    words: &mut Words,
     format: Format,
     origin: Origin<'_>,
     sizes: &[u64],
@@ -141,62 +137,62 @@ fn try_other_misfits(
 ) -> Result<(), AllocError>
     requires { length sizes.now ≡ length (sources_of origin.manifest.now.lines) }
 {
-    let alloc = reporter.rt.alloc();
+    let alloc = words.alloc();
     let Ok(all) = misfits(alloc, origin.manifest, sizes, format) else {
         return Err(AllocError);
     };
     let mut more = 0u64;
     for (said, other) in all.iter().filter(|other| other.line > first).enumerate() {
         if said < MOST_SAID {
-            try_misfit(reporter, format, origin, sizes, (other.line, other.number))?;
+            try_misfit(words, format, origin, sizes, (other.line, other.number))?;
         } else {
             more = more.saturating_add(1);
         }
     }
     if more > 0 {
         let what = format!(in alloc; "{more} more do not fit")?;
-        reporter.explain(origin.name.as_bytes(), &what);
+        words.add(origin.name.as_bytes(), &what);
     }
     Ok(())
 }
 
-/// Warns of lines that end in a carriage return, which is part of their last field.
-pub fn returns(reporter: &Reporter<'_>, manifest: &str, text: &[u8]) {
-    if reporter.is_explained() {
-        let _ = try_returns(reporter, manifest, text);
+/// Adds a warning of lines that end in a carriage return, which is part of their last field.
+pub fn returns(words: &mut Words, manifest: &str, text: &[u8]) {
+    if words.are_asked() {
+        let _ = try_returns(words, manifest, text);
     }
 }
 
-fn try_returns(reporter: &Reporter<'_>, manifest: &str, text: &[u8]) -> Result<(), AllocError> {
+fn try_returns(words: &mut Words, manifest: &str, text: &[u8]) -> Result<(), AllocError> {
     let Some((first, count)) = manifest_line::returns_of(text) else {
         return Ok(());
     };
-    let what = format!(in reporter.rt.alloc();
+    let what = format!(in words.alloc();
         "warning: lines that end in a carriage return, which is part of their last word: {count}"
     )?;
-    of_line(reporter, manifest, first, &what)
+    of_line(words, manifest, first, &what)
 }
 
-/// Explains which parts of other builds are beside the image, and which were removed.
-pub fn parts(reporter: &Reporter<'_>, target: &Target) {
-    if reporter.is_explained() {
-        let _ = try_parts(reporter, target);
+/// Adds which parts of other builds are beside the image, and which were removed.
+pub fn parts(words: &mut Words, target: &Target) {
+    if words.are_asked() {
+        let _ = try_parts(words, target);
     }
 }
 
-fn try_parts(reporter: &Reporter<'_>, target: &Target) -> Result<(), AllocError> {
+fn try_parts(words: &mut Words, target: &Target) -> Result<(), AllocError> {
     let Some((whole, Others { removed, kept })) = target.others() else {
         return Ok(());
     };
-    let alloc = reporter.rt.alloc();
+    let alloc = words.alloc();
     let place = part_path(alloc, whole, 0)?;
     if removed > 0 {
         let what = format!(in alloc; "removed parts of interrupted builds: {removed}")?;
-        reporter.explain(place.as_bytes(), &what);
+        words.add(place.as_bytes(), &what);
     }
     if kept > 0 {
         let what = format!(in alloc; "warning: parts of running or interrupted builds: {kept}")?;
-        reporter.explain(place.as_bytes(), &what);
+        words.add(place.as_bytes(), &what);
     }
     Ok(())
 }

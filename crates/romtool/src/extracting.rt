@@ -13,7 +13,9 @@ ghost use Rattle.tree_extract.specs.Choices.{IsFit};
 use crate::extraction::Extraction;
 use crate::output::{Output, output};
 use crate::reporter::Reporter;
+use crate::stop::{Line, Stop, named, usage};
 use crate::totals::{is_many_times, programs_at_pages};
+use crate::words::Words;
 use build_commands::{Description, Filled, Unextracted, extract_image};
 use command_line::Extract;
 use image_check::AnyImage;
@@ -23,8 +25,9 @@ use path_patterns::Piece;
 use rom_commands::{Ending, Status};
 use rom_tree::{Kind, Stat, TreeImage};
 use sentences::reasons::{INCOMPLETE, LONG_PATH, LONG_VOLUME};
+use std::alloc::Global;
 use std::{io, slice};
-use system_files::base;
+use system_files::{Refusal, base};
 use system_tree::{Syncing, System, Top};
 use tree_extract::{Directory, Kind as Made, Rights, Stopped, Tree};
 
@@ -118,7 +121,7 @@ impl Filled for Entered {
 
 impl Extraction<'_> {
     /// Checks that the system accepts each name of what is made, and counts the names.
-    fn try_names(&self, counts: &mut Counts) -> Result<(), Status> {
+    fn try_names(&self, counts: &mut Counts) -> Result<(), Stop> {
         for index in 0..self.tree.len() {
             let (stat, made) = (self.tree.stat(index), self.tree.kind(index));
             if !self.is_whole && made == Made::Nothing {
@@ -126,16 +129,16 @@ impl Extraction<'_> {
             }
             counts.count(stat, made);
             if is_made(stat.kind)
-                && let Err(e) = self.try_name(index)
+                && let Err(why) = self.try_name(index)
             {
-                return Err(self.refused(index, &e));
+                return Err(self.refused(index, why));
             }
         }
         Ok(())
     }
 
     /// Fills the open directory of this name, syncs it to the disk if that is asked for, and prints
-    /// the image's manifest if it is described. Reports what is left out and made otherwise.
+    /// the image's manifest if it is described. Explains what is left out and made otherwise.
     fn fill(
         &self,
         directory: &str,
@@ -143,7 +146,7 @@ impl Extraction<'_> {
         description: Option<Description<'_>>,
         out: &mut Output<'_>,
         mut counts: Counts,
-    ) -> Result<(), Status>
+    ) -> Result<(), Stop>
         requires { IsLawfulTree (any_view self.now.tree.now.image.now).tree }
     {
         let mut system = System::new(self.members());
@@ -156,36 +159,48 @@ impl Extraction<'_> {
         let result = extract_image(self.tree, &mut system, &mut entered, description, out);
         counts.further = system.further;
         counts.copies = system.copies;
-        let status = match result {
+        match result {
             Ok(()) => {
                 self.explain(counts);
-                return Ok(());
+                Ok(())
             }
             Err(Unextracted::NotPrinted) => {
+                let stop = Stop::unwritten();
                 self.explain(counts);
-                return Err(self.reporter.say(Ending::WriteFault));
+                Err(stop)
             }
-            Err(Unextracted::Stopped(Stopped { index, error })) => self.refused(index, &error),
-            Err(Unextracted::NotFinished(e)) => self.reporter.refused(directory.as_bytes(), &e),
-        };
-        self.reporter.explain(directory.as_bytes(), &INCOMPLETE);
-        Err(status)
+            Err(Unextracted::Stopped(Stopped { index, error })) => {
+                Err(self.refused(index, error).and(directory, INCOMPLETE))
+            }
+            Err(Unextracted::NotFinished(e)) => {
+                Err(
+                    self.unfinished(directory, e.into())
+                        .and(directory, INCOMPLETE),
+                )
+            }
+        }
+    }
+
+    /// Why an extraction stops if the system refused the last step in the directory of this name.
+    fn unfinished(&self, directory: &str, why: Refusal) -> Stop {
+        let alloc = self.reporter.rt.alloc();
+        if why.is_memory() {
+            return Stop::Told(Line::Of(Ending::Memory), Words::new(alloc, true));
+        }
+        Stop::of_file(alloc, directory.as_bytes(), why)
     }
 
     /// Makes all members in the directory of this name, and prints the image's manifest if it is
     /// described. Nothing is made if the system refuses a name of the image.
-    fn run(&self, directory: &str, description: Option<Description<'_>>) -> Result<(), Status>
+    fn run(&self, directory: &str, description: Option<Description<'_>>) -> Result<(), Stop>
         requires { IsLawfulTree (any_view self.now.tree.now.image.now).tree }
     {
-        let reporter = self.reporter;
+        let rt = self.reporter.rt;
         let mut counts = Counts::default();
         self.try_names(&mut counts)?;
         self.explain_bytes(counts.bytes);
-        let mut out = output(reporter)?;
-        let top = match Top::enter(reporter.rt, directory) {
-            Ok(top) => top,
-            Err(e) => return Err(reporter.refused(directory.as_bytes(), &e)),
-        };
+        let mut out = output(rt)?;
+        let top = named(rt.alloc(), directory, Top::enter(rt, directory))?;
         let tree = ImageTree {
             image: self.tree.image,
             members: self.tree.members,
@@ -253,7 +268,7 @@ fn take_apart<'a>(
     reporter: &'a Reporter<'a>,
     tree: &'a ImageTree<'a, 'a, AnyImage<'a>>,
     asked: &'a Extract<'a>,
-) -> Status
+) -> Result<Status, Stop>
     requires shallow { IsShallow (any_view tree.now.image.now).tree }
     requires lawful { IsLawfulTree (any_view tree.now.image.now).tree }
 {
@@ -283,21 +298,19 @@ fn take_apart<'a>(
             align: asked.align,
         },
     });
-    match extraction.run(asked.directory, description) {
-        Ok(()) => Status::Done,
-        Err(status) => status,
-    }
+    extraction.run(asked.directory, description)?;
+    Ok(Status::Done)
 }
 
 /// Returns what is made of the members of an image, by the patterns that are asked for. Refuses a
 /// pattern by which nothing is made.
 fn kinds_by<'a>(
-    reporter: &Reporter<'_>,
+    alloc: Global,
     image: &AnyImage<'a>,
     members: &[Member<'a>],
     asked: &Extract<'_>,
     patterns: &[Vec<Piece>],
-) -> Result<Vec<Made>, Status>
+) -> Result<Vec<Made>, Stop>
     requires are { AreMembers (any_view image.now) members.now }
     requires lawful { IsLawfulTree (any_view image.now).tree }
     ensures made { IfOk result (λ v. AreMadeBy (map (λ p. p.items) patterns.now)
@@ -305,63 +318,56 @@ fn kinds_by<'a>(
     ensures fit { IfOk result (λ v. (g : AGiving)
         → IsFit (members_in g (any_view image.now)) v.items) }
 {
-    let alloc = reporter.rt.alloc();
     for (text, pattern) in asked.paths.iter().zip(patterns) {
         let Ok(kinds) = kinds_made(alloc, image, members, slice::from_ref(pattern)) else {
-            return Err(reporter.say(Ending::Memory));
+            return Err(Stop::Memory);
         };
         // an empty word is that of a variable that is not set; the root is a slash
         if text.is_empty() || kinds.iter().all(|kind| *kind == Made::Nothing) {
-            let status = reporter.say(Ending::Usage);
-            reporter.explain(text.as_bytes(), &MATCHES_NOTHING);
-            return Err(status);
+            return Err(usage(alloc, text, MATCHES_NOTHING));
         }
     }
     match kinds_made(alloc, image, members, patterns) {
         Ok(kinds) => Ok(kinds),
-        Err(_) => Err(reporter.say(Ending::Memory)),
+        Err(_) => Err(Stop::Memory),
     }
 }
 
-/// Takes a checked image apart, prints its manifest, and returns the status.
+/// Takes a checked image apart, and prints its manifest.
+///
+/// # Errors
+///
+/// `Usage` for a pattern by which nothing is made; `Told` for what the system refused, and for a
+/// name that no manifest has; `Refused`, `Memory`, `Unwritten`.
 pub fn run<'a>(
     reporter: &'a Reporter<'a>,
     image: &'a AnyImage<'a>,
     asked: &'a Extract<'a>,
     patterns: &'a [Vec<Piece>],
-) -> Status
+) -> Result<Status, Stop>
     requires shallow { IsShallow (any_view image.now).tree }
     requires lawful { IsLawfulTree (any_view image.now).tree }
 {
-    let name = asked.image.as_bytes();
+    let (alloc, name) = (reporter.rt.alloc(), asked.image);
     if volume(image).len() > LONGEST_VOLUME {
-        let status = reporter.say(Ending::LongVolume);
-        reporter.explain(name, &LONG_VOLUME);
-        return status;
+        return Err(Stop::ended(alloc, Ending::LongVolume, name, LONG_VOLUME));
     }
-    match members(reporter.rt.alloc(), image) {
-        Ok(members) => match kinds_by(reporter, image, &members, asked, patterns) {
-            Ok(kinds) => take_apart(
-                reporter,
-                &ImageTree {
-                    image,
-                    members: &members,
-                    patterns,
-                    kinds: &kinds,
-                    giving: Giving {
-                        owners: asked.owners,
-                        masked: 0,
-                    },
+    match members(alloc, image) {
+        Ok(members) => {
+            let kinds = kinds_by(alloc, image, &members, asked, patterns)?;
+            let tree = ImageTree {
+                image,
+                members: &members,
+                patterns,
+                kinds: &kinds,
+                giving: Giving {
+                    owners: asked.owners,
+                    masked: 0,
                 },
-                asked,
-            ),
-            Err(status) => status,
-        },
-        Err(Refused::OutOfMemory) => reporter.say(Ending::Memory),
-        Err(Refused::LongPath) => {
-            let status = reporter.say(Ending::LongPath);
-            reporter.explain(name, &LONG_PATH);
-            status
+            };
+            take_apart(reporter, &tree, asked)
         }
+        Err(Refused::OutOfMemory) => Err(Stop::Memory),
+        Err(Refused::LongPath) => Err(Stop::ended(alloc, Ending::LongPath, name, LONG_PATH)),
     }
 }

@@ -4,10 +4,12 @@ ghost use Rattle.image_check.specs.Any.{any_view};
 ghost use Rattle.image_manifest.specs.ExtractedMembers.{made_in};
 
 use crate::reporter::Reporter;
+use crate::stop::{Line, Stop};
+use crate::words::Words;
 use image_check::AnyImage;
 use image_manifest::ImageTree;
-use rom_commands::{Ending, Status};
-use std::io;
+use rom_commands::Ending;
+use system_files::Refusal;
 use system_tree::{Members, Syncing};
 
 /// An image, and the directory that it is extracted into, without slashes at its end.
@@ -37,21 +39,22 @@ impl<'a> Extraction<'a> {
     }
 
     /// Checks that the system accepts the path of the member at an index, and a link's text.
-    pub fn try_name(&self, index: usize) -> io::Result<()>
+    pub fn try_name(&self, index: usize) -> Result<(), Refusal>
         requires { index < length (made_in self.now.tree.now.giving
             (any_view self.now.tree.now.image.now) self.now.tree.now.kinds.now) }
     {
         self.members().try_name(index, self.directory.len())
     }
 
-    /// Reports why the member at an index cannot be made, or could not be made.
-    pub fn refused(&self, index: usize, e: &io::Error) -> Status
+    /// Returns why an extraction stops if the member at an index cannot be made, or could not be.
+    pub fn refused(&self, index: usize, why: Refusal) -> Stop
         requires { index < length (made_in self.now.tree.now.giving
             (any_view self.now.tree.now.image.now) self.now.tree.now.kinds.now) }
     {
+        let alloc = self.reporter.rt.alloc();
         match self.members().named_in(self.directory, index) {
-            Ok(name) => self.reporter.refused(&name, e),
-            Err(_) => self.reporter.say(Ending::Memory),
+            Ok(name) if !why.is_memory() => Stop::of_file(alloc, &name, why),
+            _ => Stop::Told(Line::Of(Ending::Memory), Words::new(alloc, true)),
         }
     }
 }

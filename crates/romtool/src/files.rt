@@ -5,15 +5,17 @@ ghost use Rattle.manifest.specs.Lines.{sources_of};
 
 use crate::asked::Asked;
 use crate::origin::Origin;
-use crate::reading::{self, TextFile};
-use crate::reporter::Reporter;
-use crate::watched::Watched;
+use crate::stop::{Line, Stop, changed, failed};
+use crate::unchanged::Late;
+use crate::words::Words;
 use image_build::StreamError;
-use rom_commands::{Ending, Status};
-use sentences::reasons::{NOT_TAKEN, SOURCE_CHANGED, SOURCE_UNREAD, SUM_DIFFERS};
+use rom_commands::Ending;
+use sentences::reason_sentence;
+use sentences::reasons::{NOT_TAKEN, SUM_DIFFERS};
 use std::alloc::{AllocError, Global};
 use std::io;
-use system_files::{Late, Stamp, first_changed, has_changed};
+use system_files::reading::{self, TextFile};
+use system_files::{Disk, Reason, Refusal, Stamp, Watched, first_changed, has_changed};
 
 /// The word for a manifest on standard input.
 pub const INPUT: &str = "-";
@@ -91,75 +93,72 @@ impl<'a> Files<'a> {
 }
 
 impl Files<'_> {
-    /// Reports that a source changed.
-    pub fn say_changed(&self, reporter: &Reporter<'_>, file: usize) -> Status {
-        let status = reporter.say(Ending::Changed);
-        reporter.explain_source(self.origin, file, &SOURCE_CHANGED);
-        status
+    /// Stops since a source changed.
+    fn source_changed(&self, alloc: Global, file: usize) -> Stop {
+        let mut words = Words::new(alloc, true);
+        words.add_source(self.origin, file, &reason_sentence(Reason::SourceChanged));
+        Stop::Told(Line::Of(Ending::Changed), words)
     }
 
-    /// Reports what changed while the image was written.
-    pub fn say_late(&self, reporter: &Reporter<'_>, late: Late) -> Status {
-        match late {
-            Late::Manifest => reporter.changed(self.origin.name.as_bytes(), &SOURCE_CHANGED),
-            Late::Source(file) if file < self.names.len() => self.say_changed(reporter, file),
-            Late::Source(file) => {
-                let name = self.kept.names.get(file).copied().unwrap_or("");
-                reporter.changed(name.as_bytes(), &SOURCE_CHANGED)
+    /// Returns why a build stops since something changed while the image was written.
+    pub fn late(&self, alloc: Global, late: Late) -> Stop {
+        let name = match late {
+            Late::Manifest => self.origin.name,
+            Late::Source(file) if file < self.names.len() => {
+                return self.source_changed(alloc, file);
             }
-        }
+            Late::Source(file) => self.kept.names.get(file).copied().unwrap_or(""),
+        };
+        changed(alloc, name, reason_sentence(Reason::SourceChanged))
     }
 
-    /// Reports that a source could not be read as it was: it changed, or the system refused it, for
-    /// this reason if there is one.
-    pub fn say_fault(
-        &self,
-        reporter: &Reporter<'_>,
-        file: usize,
-        reason: Option<io::Error>,
-    ) -> Status {
+    /// Returns why a build stops since a source could not be read as it was: it changed, or was
+    /// refused, or has another length than the system reported.
+    pub fn fault(&self, rt: &HostRuntime, file: usize, why: Option<Refusal>) -> Stop {
+        let alloc = rt.alloc();
+        let mut words = Words::new(alloc, true);
         let (Some(name), Some(stamp)) = (self.names.get(file), self.stamps.get(file)) else {
-            return reporter.say(Ending::Changed);
+            return Stop::Told(Line::Of(Ending::Changed), words);
         };
-        let reason = match has_changed(reporter.rt, name, stamp) {
-            Ok(true) => return self.say_changed(reporter, file),
-            Ok(false) => reason,
-            Err(e) => Some(e),
+        let why = match has_changed(rt, name, stamp) {
+            Ok(true) => return self.source_changed(alloc, file),
+            Ok(false) => why.unwrap_or(Refusal::Reason(Reason::SourceUnread)),
+            Err(e) => Refusal::System(e),
         };
-        let status = reporter.say(Ending::File(name.as_bytes()));
-        match reason {
-            Some(e) => reporter.explain_error(self.origin, file, &e),
-            None => reporter.explain_source(self.origin, file, &SOURCE_UNREAD),
+        words.add_refused_source(self.origin, file, why);
+        match name.as_bytes().to_vec(alloc) {
+            Ok(name) => Stop::Told(Line::File(name), words),
+            Err(_) => Stop::Memory,
         }
-        status
     }
 
-    /// Reports why not all of an image was written: OUT or a source failed, for the system's
-    /// reason.
-    pub fn say_unwritten(
+    /// Returns why a build stops since not all of an image was written: OUT or a source failed, for
+    /// the system's reason.
+    pub fn unwritten(
         &self,
-        reporter: &Reporter<'_>,
+        rt: &HostRuntime,
         e: StreamError,
         reasons: (Option<io::Error>, Option<io::Error>),
         out: &str,
-    ) -> Status {
+    ) -> Stop {
         let (of_source, of_out) = reasons;
         match e {
-            StreamError::SizeDiffers { file } => self.say_fault(reporter, file, None),
-            StreamError::SourceFault { file } => self.say_fault(reporter, file, of_source),
-            StreamError::WriteFault => say_not_taken(reporter, of_out, out),
-            StreamError::Changed => match first_changed(reporter.rt, self.names, self.stamps) {
-                Some(file) => self.say_changed(reporter, file),
-                None => reporter.changed(out.as_bytes(), &SUM_DIFFERS),
+            StreamError::SizeDiffers { file } => self.fault(rt, file, None),
+            StreamError::SourceFault { file } => self.fault(rt, file, of_source.map(Disk::refusal)),
+            StreamError::WriteFault => not_taken(rt.alloc(), of_out, out),
+            StreamError::Changed => match first_changed(rt, self.names, self.stamps) {
+                Some(file) => self.source_changed(rt.alloc(), file),
+                None => changed(rt.alloc(), out, SUM_DIFFERS),
             },
         }
     }
 }
 
-/// Reports that OUT did not accept everything, for the system's reason if it gave one.
-pub fn say_not_taken(reporter: &Reporter<'_>, reason: Option<io::Error>, out: &str) -> Status {
+/// Returns why a build stops since OUT did not accept everything, for the system's reason if it
+/// gave one.
+pub fn not_taken(alloc: Global, reason: Option<io::Error>, out: &str) -> Stop {
     match reason {
-        Some(e) => reporter.failed_by(out.as_bytes(), &e),
-        None => reporter.failed(out.as_bytes(), &NOT_TAKEN),
+        Some(e) => Stop::of_file(alloc, out.as_bytes(), e.into()),
+        None => failed(alloc, out, NOT_TAKEN),
     }
 }

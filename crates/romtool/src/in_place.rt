@@ -4,14 +4,8 @@ use crate::watched::States;
 use manifest::{Line, Word};
 use plan_types::{Body, Plan, Section};
 use program_report::{Reason, Verdict, verdict_at};
-use program_streams::read_until;
-use sentences::reasons::{SOURCE_CHANGED, SOURCE_UNREAD};
 use std::alloc::{AllocError, AllocFailed, Global};
-use std::io;
-use system_files::{Stamp, open_unchanged};
-
-/// The first bytes of an ELF file.
-const MAGIC: &[u8] = b"\x7fELF";
+use system_files::{Refusal, Stamp, elf_in};
 
 /// The most bytes of a program.
 const MOST: u64 = 1 << 32;
@@ -49,7 +43,7 @@ pub enum Unknown {
     /// Memory was refused.
     Memory,
     /// The source of this number could not be read.
-    Source(usize, io::Error),
+    Source(usize, Refusal),
 }
 
 impl From<AllocError> for Unknown {
@@ -101,24 +95,6 @@ fn spots_of(alloc: Global, plan: &Plan, count: usize) -> Result<Vec<Spot>, Alloc
         }
     }
     Ok(spots)
-}
-
-/// The bytes of the file of this name, if it is an ELF file.
-fn elf_at(rt: &HostRuntime, name: &str, stamp: &Stamp) -> io::Result<Option<Vec<u8>>> {
-    let Some(mut file) = open_unchanged(rt, name, stamp)? else {
-        return Err(io::Error::new(io::ErrorKind::InvalidData, SOURCE_CHANGED));
-    };
-    let mut bytes = Vec::new(rt.alloc());
-    let front = MAGIC.len() as u64;
-    read_until(&mut file, &mut bytes, front, front)?;
-    if bytes.as_slice() != MAGIC && bytes.len() as u64 == front.min(stamp.len) {
-        return Ok(None);
-    }
-    read_until(&mut file, &mut bytes, MOST, stamp.len)?;
-    if (bytes.len() as u64) < stamp.len {
-        return Err(io::Error::new(io::ErrorKind::UnexpectedEof, SOURCE_UNREAD));
-    }
-    Ok(Some(bytes))
 }
 
 /// Returns what Linux does with a program whose contents begin at an offset of the image.
@@ -201,10 +177,10 @@ pub fn programs_of(
         if !may_be_program(origin.states(), name) {
             continue;
         }
-        let verdict = match elf_at(rt, name, stamp) {
+        let verdict = match elf_in(rt, name, stamp, MOST) {
             Ok(Some(bytes)) => verdict_of(is_romfs, spot.place, &bytes),
             Ok(None) => None,
-            Err(e) if e.kind() == io::ErrorKind::OutOfMemory => return Err(Unknown::Memory),
+            Err(e) if e.is_memory() => return Err(Unknown::Memory),
             Err(e) => return Err(Unknown::Source(file, e)),
         };
         if let Some(verdict) = verdict {

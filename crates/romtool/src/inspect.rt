@@ -7,12 +7,14 @@ ghost use Rattle.image_manifest.specs.Describable.{IsLawfulTree};
 ghost use Rattle.rom_commands.specs.Asked.{Fits};
 
 use crate::dump::DumpFile;
-use crate::output::{errors, lines, output, terminal};
+use crate::limit::limit_of;
+use crate::output::{coloured_lines, errors, has_colours, lines, output, terminal};
 use crate::patterns::{all_pieces, only};
 use crate::printed::in_file;
-use crate::reading::Unread;
 use crate::reporter::Reporter;
-use crate::{dump, extracting, reading, totals};
+use crate::stop::{FrontOf, Line, Stop, unread, usage};
+use crate::words::Words;
+use crate::{dump, extracting, totals};
 use command_line::{Cat, Diff, Digest, Extract, Map, MapForm, Verify, Which};
 use image_check::{AnyImage, check};
 use image_info::Numbers;
@@ -20,7 +22,7 @@ use map_forms::is_prefix;
 use rom_commands::{
     Asked, Ending, Status, Verified, has_addresses, print, print_diff, print_digests,
     print_extents, print_file, print_header, print_image_digest, print_numbers, print_picture,
-    print_places, print_script, refuse, verify_dump,
+    print_places, print_script, verify_dump,
 };
 use rom_faults::{CheckError, Fault};
 use rom_fields::{ByteWrite, Plain, put};
@@ -29,117 +31,108 @@ use sentences::image::range_seen;
 use sentences::reasons::{MISREAD, NO_ADDRESS, NO_PREFIX, NOT_IN_PLACE, TERMINAL};
 use sentences::words::escaped;
 use sentences::{Noted, TextSeen};
+use std::alloc::Global;
 use std::io::IsTerminal;
-use system_files::{Found, Front, Loaded};
+use system_files::reading::Unread;
+use system_files::{Found, Loaded, reading};
 
 /// The prefix of the names in a header, if none is given.
 const PREFIX: &str = "ROM";
 
-/// Reports that a word asks for nothing that is there, and why.
-fn usage(reporter: &Reporter<'_>, word: &str, why: &'static str) -> Status {
-    let status = reporter.say(Ending::Usage);
-    reporter.explain(word.as_bytes(), &why);
-    status
-}
-
-/// Prints the fault that a file has by its first bytes.
-fn refuse_front(reporter: &Reporter<'_>, name: &str, front: &Front, asked: Asked) -> Status {
-    let (mut out, mut err) = (lines(reporter.rt), errors(reporter.rt));
-    let ending = refuse(front.fault, asked, &mut out, &mut err);
-    reporter.finish_image(err, ending, name.as_bytes(), &front.bytes);
-    ending.status()
-}
-
-/// Returns the image in a file, of which this is asked. Reports why there is none: a fault as the
-/// answer.
-pub fn loaded(reporter: &Reporter<'_>, name: &str, asked: Asked) -> Result<Loaded, Status> {
-    match reading::image(reporter.rt, reporter.most, name) {
+/// Returns the image in a file, of which this is asked.
+///
+/// # Errors
+///
+/// `Front` if its first bytes refuse it: then its fault is the answer; `Usage` if it has no
+/// addresses; `Unread`, `Changed`, `Memory`.
+pub fn loaded(
+    rt: &HostRuntime,
+    most: Option<u64>,
+    name: &str,
+    asked: Asked,
+) -> Result<Loaded, Stop> {
+    match reading::image(rt, limit_of(rt, most), name) {
         Ok(Found::Image(image)) => Ok(image),
         Ok(Found::Refused(front)) if !has_addresses(asked, front.reach as usize) => {
-            Err(usage(reporter, name, NO_ADDRESS))
+            Err(usage(rt.alloc(), name, NO_ADDRESS))
         }
-        Ok(Found::Refused(front)) => Err(refuse_front(reporter, name, &front, asked)),
-        Err(e) => Err(reporter.unread(name.as_bytes(), &e)),
+        Ok(Found::Refused(front)) => {
+            let name = String::from_str(rt.alloc(), name)?;
+            Err(Stop::Front(name, front, FrontOf::One(asked)))
+        }
+        Err(e) => Err(unread(rt.alloc(), name, e)),
     }
 }
 
-/// Reports on standard error which fault a file has, by all its bytes or by its first ones.
-fn say_fault(reporter: &Reporter<'_>, name: &str, bytes: &[u8], fault: Fault) -> Status {
-    let status = reporter.say(Ending::Fault { fault, image: None });
-    reporter.explain_fault(name.as_bytes(), bytes, fault);
-    status
-}
-
-/// Returns the image in a file whose answer is data. Reports on standard error why there is none.
-fn loaded_data(reporter: &Reporter<'_>, name: &str) -> Result<Loaded, Status> {
-    match reading::image(reporter.rt, reporter.most, name) {
+/// Returns the image in a file whose answer is data.
+fn loaded_data(rt: &HostRuntime, most: Option<u64>, name: &str) -> Result<Loaded, Stop> {
+    match reading::image(rt, limit_of(rt, most), name) {
         Ok(Found::Image(image)) => Ok(image),
-        Ok(Found::Refused(front)) => Err(say_fault(reporter, name, &front.bytes, front.fault)),
-        Err(e) => Err(reporter.unread(name.as_bytes(), &e)),
+        Ok(Found::Refused(front)) => {
+            let name = String::from_str(rt.alloc(), name)?;
+            Err(Stop::Front(name, front, FrontOf::Data))
+        }
+        Err(e) => Err(unread(rt.alloc(), name, e)),
     }
 }
 
-/// Returns the image in these bytes of the file of this name. Reports on standard error why there
-/// is none.
-fn checked<'a>(reporter: &Reporter<'_>, name: &str, bytes: &'a [u8]) -> Result<AnyImage<'a>, Status>
+/// Returns the image in these bytes of the file of this name. Otherwise words say which fault it
+/// has.
+fn checked<'a>(name: &str, bytes: &'a [u8], mut words: Words) -> Result<AnyImage<'a>, Stop>
     ensures shallow { IfOk result (λ v. IsShallow (any_view v).tree) }
     ensures checked { IfOk result IsChecked }
     ensures lawful { IfOk result (λ v. IsLawfulTree (any_view v).tree) }
 {
     headline::laws::accepted_is_lawful();
-    match check(reporter.rt.alloc(), bytes, Limits::usual()) {
+    match check(words.alloc(), bytes, Limits::usual()) {
         Ok(image) => Ok(image),
-        Err(CheckError::OutOfMemory) => Err(reporter.say(Ending::Memory)),
+        Err(CheckError::OutOfMemory) => Err(Stop::Memory),
         Err(CheckError::Fault { number, at }) => {
-            Err(say_fault(reporter, name, bytes, Fault { number, at }))
+            let fault = Fault { number, at };
+            words.add_fault(name.as_bytes(), bytes, fault);
+            Err(Stop::Told(Line::Of(Ending::Fault { fault, image: None }), words))
         }
     }
 }
 
-/// Explains by how many bytes an image is too large.
-fn explain_size(reporter: &Reporter<'_>, name: &[u8], bytes: &[u8], limit: u64) {
-    let alloc = reporter.rt.alloc();
+/// Adds by how many bytes an image is too large.
+fn explain_size(words: &mut Words, name: &[u8], bytes: &[u8], limit: u64) {
+    let alloc = words.alloc();
     let Ok(image) = check(alloc, bytes, Limits::usual()) else {
         return;
     };
     let size = u64::from(image.size());
     let more = size.saturating_sub(limit);
     if let Ok(what) = format!(in alloc; "it has {size} bytes, {more} more than {limit}") {
-        reporter.explain(name, &what);
+        words.add(name, &what);
     }
 }
 
-/// Explains each thing once that the printed lines say of an image, and then why it was refused.
-fn explain_lines(
-    reporter: &Reporter<'_>,
-    name: &[u8],
-    bytes: &[u8],
-    asked: Asked,
-    why: &'static str,
-)
+/// Adds each thing once that the printed lines say of an image, and then why it was refused.
+fn explain_lines(words: &mut Words, name: &[u8], bytes: &[u8], asked: Asked, why: &'static str)
     requires { Fits asked (length bytes.now) }
 {
-    let alloc = reporter.rt.alloc();
+    let alloc = words.alloc();
     let mut lines = Plain::new(Noted::new(alloc));
     let mut nothing = Plain::new(Vec::new(alloc));
     print(alloc, bytes, asked, &mut lines, &mut nothing);
     if let Ok(texts) = lines.into_inner().texts() {
         for text in &texts {
-            reporter.explain(name, text);
+            words.add(name, text);
         }
     }
-    reporter.explain(name, &why);
+    words.add(name, &why);
 }
 
-/// Explains why a valid image was refused: Linux misreads it, does not execute a program in place,
-/// or it does not fit.
-fn explain_warning(reporter: &Reporter<'_>, name: &[u8], bytes: &[u8], asked: Asked)
+/// Adds why a valid image was refused: Linux misreads it, does not execute a program in place, or
+/// it does not fit.
+fn explain_warning(words: &mut Words, name: &[u8], bytes: &[u8], asked: Asked)
     requires { Fits asked (length bytes.now) }
 {
     match asked {
-        Asked::Misreads => explain_lines(reporter, name, bytes, asked, MISREAD),
-        Asked::Programs(_) => explain_lines(reporter, name, bytes, asked, NOT_IN_PLACE),
-        Asked::Fit { limit, .. } => explain_size(reporter, name, bytes, limit),
+        Asked::Misreads => explain_lines(words, name, bytes, asked, MISREAD),
+        Asked::Programs(_) => explain_lines(words, name, bytes, asked, NOT_IN_PLACE),
+        Asked::Fit { limit, .. } => explain_size(words, name, bytes, limit),
         _ => {}
     }
 }
@@ -150,66 +143,61 @@ pub fn show(
     name: &[u8],
     bytes: &[u8],
     asked: Asked,
-) -> Result<Status, Status>
+) -> Result<Status, Stop>
     requires { Fits asked (length bytes.now) }
 {
-    let (mut out, mut err) = (output(reporter)?, errors(reporter.rt));
-    let ending = print(reporter.rt.alloc(), bytes, asked, &mut out, &mut err);
+    let (rt, mut err) = (reporter.rt, errors(reporter.rt));
+    let ending = if asked == Asked::Report && has_colours(rt) {
+        print(rt.alloc(), bytes, asked, &mut coloured_lines(rt), &mut err)
+    } else {
+        print(rt.alloc(), bytes, asked, &mut output(rt)?, &mut err)
+    };
     reporter.finish_image(err, ending, name, bytes);
     if ending == Ending::Warned && reporter.is_explained() {
-        explain_warning(reporter, name, bytes, asked);
+        let mut words = reporter.words();
+        explain_warning(&mut words, name, bytes, asked);
+        reporter.tell(&words);
     }
     Ok(ending.status())
 }
 
 /// Prints what is asked of the image in a file, if all its bytes have addresses.
-pub fn file(reporter: &Reporter<'_>, name: &str, asked: Asked) -> Result<Status, Status> {
-    let image = loaded(reporter, name, asked)?;
+///
+/// # Errors
+///
+/// Those of `loaded`; `Usage` if some have none.
+pub fn file(reporter: &Reporter<'_>, name: &str, asked: Asked) -> Result<Status, Stop> {
+    let image = loaded(reporter.rt, reporter.most, name, asked)?;
     let asked = in_file(image.file, asked);
     if !has_addresses(asked, image.bytes.len()) {
-        return Err(usage(reporter, name, NO_ADDRESS));
+        return Err(usage(reporter.rt.alloc(), name, NO_ADDRESS));
     }
-    totals::explain(reporter, name.as_bytes(), &image.bytes, asked);
+    let mut words = reporter.words();
+    totals::explain(&mut words, name.as_bytes(), &image.bytes, asked);
+    reporter.tell(&words);
     show(reporter, name.as_bytes(), &image.bytes, asked)
 }
 
 /// Prints the line before the report of an image: the name of its file, escaped.
-fn put_name(reporter: &Reporter<'_>, name: &str) -> Result<(), Status> {
-    let alloc = reporter.rt.alloc();
-    let Ok(name) = escaped(alloc, name.as_bytes()) else {
-        return Err(reporter.say(Ending::Memory));
-    };
-    let mut out = lines(reporter.rt);
+///
+/// # Errors
+///
+/// `Memory`, `Unwritten`.
+pub fn put_name(rt: &HostRuntime, name: &str) -> Result<(), Stop> {
+    let name = escaped(rt.alloc(), name.as_bytes())?;
+    let mut out = lines(rt);
     let mut failed = false;
     put(&mut out, &mut failed, b"image ");
     put(&mut out, &mut failed, name.as_bytes());
     put(&mut out, &mut failed, b"\n");
     if failed || out.flush().is_err() {
-        return Err(reporter.say(Ending::WriteFault));
+        return Err(Stop::unwritten());
     }
     Ok(())
 }
 
-/// Checks the images in files, one after the other, each after a line with its name. The status is
-/// the greatest of all.
-pub fn check_each(reporter: &Reporter<'_>, names: &[&str]) -> Result<Status, Status> {
-    let mut greatest = Status::Done;
-    for name in names {
-        put_name(reporter, name)?;
-        match file(reporter, name, Asked::Report) {
-            Ok(status) | Err(status) => {
-                if status.code() > greatest.code() {
-                    greatest = status;
-                }
-            }
-        }
-    }
-    Ok(greatest)
-}
-
 /// Whether the file to which a path leads in an image has only characters that a terminal shows.
-fn is_text(reporter: &Reporter<'_>, bytes: &[u8], path: &[u8]) -> bool {
-    let alloc = reporter.rt.alloc();
+fn is_text(alloc: Global, bytes: &[u8], path: &[u8]) -> bool {
     let mut file = Plain::new(TextSeen::new());
     let mut nothing = Plain::new(Vec::new(alloc));
     print_file(alloc, bytes, path, &mut file, &mut nothing);
@@ -217,58 +205,69 @@ fn is_text(reporter: &Reporter<'_>, bytes: &[u8], path: &[u8]) -> bool {
 }
 
 /// Prints the bytes of the file to which a path leads in the image in a file.
-pub fn cat(reporter: &Reporter<'_>, asked: Cat<'_>) -> Result<Status, Status> {
-    let (bytes, path) = (
-        loaded_data(reporter, asked.image)?.bytes,
-        asked.path.as_bytes(),
-    );
-    if reporter.rt.stdout().is_terminal() && !is_text(reporter, &bytes, path) {
-        return Err(usage(reporter, "stdout", TERMINAL));
+///
+/// # Errors
+///
+/// `Usage` if a terminal would not show them; any stop of an image that is not read.
+#[inline(never)]
+pub fn cat(reporter: &Reporter<'_>, asked: Cat<'_>) -> Result<Status, Stop> {
+    let (rt, alloc, path) = (reporter.rt, reporter.rt.alloc(), asked.path.as_bytes());
+    let bytes = loaded_data(rt, reporter.most, asked.image)?.bytes;
+    if rt.stdout().is_terminal() && !is_text(alloc, &bytes, path) {
+        return Err(usage(alloc, "stdout", TERMINAL));
     }
-    let (mut out, mut err) = (output(reporter)?, errors(reporter.rt));
-    let ending = print_file(reporter.rt.alloc(), &bytes, path, &mut out, &mut err);
+    let (mut out, mut err) = (output(rt)?, errors(rt));
+    let ending = print_file(alloc, &bytes, path, &mut out, &mut err);
     reporter.finish(err, ending, path);
     reporter.explain_ending(ending, asked.image.as_bytes(), &bytes);
     Ok(ending.status())
 }
 
 /// Takes the image in a file apart.
-pub fn extract(reporter: &Reporter<'_>, asked: Extract<'_>) -> Result<Status, Status> {
-    let patterns = all_pieces(reporter, &asked.paths)?;
-    let loaded = loaded_data(reporter, asked.image)?;
-    let image = checked(reporter, asked.image, &loaded.bytes)?;
-    Ok(extracting::run(reporter, &image, &asked, &patterns))
+///
+/// # Errors
+///
+/// Those of `extracting::run`; `Usage` for a text that is not a pattern; any stop of an image that
+/// is not valid.
+#[inline(never)]
+pub fn extract(reporter: &Reporter<'_>, asked: Extract<'_>) -> Result<Status, Stop> {
+    let patterns = all_pieces(reporter.rt.alloc(), &asked.paths)?;
+    let loaded = loaded_data(reporter.rt, reporter.most, asked.image)?;
+    let image = checked(asked.image, &loaded.bytes, reporter.words())?;
+    extracting::run(reporter, &image, &asked, &patterns)
 }
 
 /// Returns the number of bytes of an image's file, if each of them has an address of 64 bits.
-fn addressed(
-    reporter: &Reporter<'_>,
-    name: &str,
-    loaded: &Loaded,
-    base: u64,
-) -> Result<u64, Status> {
+fn addressed(alloc: Global, name: &str, loaded: &Loaded, base: u64) -> Result<u64, Stop> {
     let file = loaded.file.max(loaded.bytes.len() as u64);
     if file > 0 && base.checked_add(file - 1).is_none() {
-        return Err(usage(reporter, name, NO_ADDRESS));
+        return Err(usage(alloc, name, NO_ADDRESS));
     }
     Ok(file)
 }
 
 /// Prints a map of the image in a file, in a form other than the lines of files.
-pub fn map(reporter: &Reporter<'_>, asked: Map<'_>) -> Result<Status, Status> {
+///
+/// # Errors
+///
+/// `Usage` for a prefix or a pattern that is none, or bytes without addresses; any stop of an image
+/// that is not valid.
+#[inline(never)]
+pub fn map(reporter: &Reporter<'_>, asked: Map<'_>) -> Result<Status, Stop> {
+    let alloc = reporter.rt.alloc();
     let prefix = match asked.form {
         MapForm::C(Some(prefix)) | MapForm::Script(Some(prefix)) => prefix,
         _ => PREFIX,
     };
     if !is_prefix(prefix.as_bytes()) {
-        return Err(usage(reporter, prefix, NO_PREFIX));
+        return Err(usage(alloc, prefix, NO_PREFIX));
     }
-    let only = only(reporter, &asked.only)?;
-    let loaded = loaded_data(reporter, asked.image)?;
-    let file = addressed(reporter, asked.image, &loaded, asked.base)?;
-    let image = &checked(reporter, asked.image, &loaded.bytes)?;
-    let (alloc, base, prefix) = (reporter.rt.alloc(), asked.base, prefix.as_bytes());
-    let (mut out, mut err) = (output(reporter)?, errors(reporter.rt));
+    let only = only(alloc, &asked.only)?;
+    let loaded = loaded_data(reporter.rt, reporter.most, asked.image)?;
+    let file = addressed(alloc, asked.image, &loaded, asked.base)?;
+    let image = &checked(asked.image, &loaded.bytes, reporter.words())?;
+    let (base, prefix) = (asked.base, prefix.as_bytes());
+    let (mut out, mut err) = (output(reporter.rt)?, errors(reporter.rt));
     let ending = match asked.form {
         MapForm::C(_) => print_header(image, base, prefix, &only, &mut out, &mut err),
         MapForm::Script(_) => print_script(image, base, prefix, &only, &mut out, &mut err),
@@ -280,12 +279,18 @@ pub fn map(reporter: &Reporter<'_>, asked: Map<'_>) -> Result<Status, Status> {
 }
 
 /// Prints what is at some addresses of the image in a file.
-pub fn which(reporter: &Reporter<'_>, asked: &Which<'_>) -> Result<Status, Status> {
-    let loaded = loaded_data(reporter, asked.image)?;
-    let file = addressed(reporter, asked.image, &loaded, asked.base)?;
-    let image = &checked(reporter, asked.image, &loaded.bytes)?;
-    let (alloc, base, addresses) = (reporter.rt.alloc(), asked.base, asked.addresses.as_slice());
-    let (mut out, mut err) = (output(reporter)?, errors(reporter.rt));
+///
+/// # Errors
+///
+/// `Usage` for bytes without addresses; any stop of an image that is not valid.
+#[inline(never)]
+pub fn which(reporter: &Reporter<'_>, asked: &Which<'_>) -> Result<Status, Stop> {
+    let alloc = reporter.rt.alloc();
+    let loaded = loaded_data(reporter.rt, reporter.most, asked.image)?;
+    let file = addressed(alloc, asked.image, &loaded, asked.base)?;
+    let image = &checked(asked.image, &loaded.bytes, reporter.words())?;
+    let (base, addresses) = (asked.base, asked.addresses.as_slice());
+    let (mut out, mut err) = (output(reporter.rt)?, errors(reporter.rt));
     let ending = print_places(alloc, image, base, file, addresses, &mut out, &mut err);
     reporter.finish(err, ending, b"");
     if ending == Ending::Warned
@@ -297,16 +302,17 @@ pub fn which(reporter: &Reporter<'_>, asked: &Which<'_>) -> Result<Status, Statu
 }
 
 /// Prints the description of the image in a file.
-pub fn numbers(
-    reporter: &Reporter<'_>,
-    asked: command_line::Numbers<'_>,
-) -> Result<Status, Status> {
-    let loaded = loaded_data(reporter, asked.image)?;
-    let image = checked(reporter, asked.image, &loaded.bytes)?;
+///
+/// # Errors
+///
+/// `Usage` if they are no text for a terminal; any stop of an image that is not valid.
+pub fn numbers(reporter: &Reporter<'_>, asked: command_line::Numbers<'_>) -> Result<Status, Stop> {
+    let loaded = loaded_data(reporter.rt, reporter.most, asked.image)?;
+    let image = checked(asked.image, &loaded.bytes, reporter.words())?;
     if !asked.is_array && reporter.rt.stdout().is_terminal() {
-        return Err(usage(reporter, "stdout", TERMINAL));
+        return Err(usage(reporter.rt.alloc(), "stdout", TERMINAL));
     }
-    let (mut out, mut err) = (output(reporter)?, errors(reporter.rt));
+    let (mut out, mut err) = (output(reporter.rt)?, errors(reporter.rt));
     let ending = print_numbers(Numbers::of(&image), asked.is_array, &mut out, &mut err);
     reporter.finish(err, ending, b"");
     Ok(ending.status())
@@ -314,15 +320,20 @@ pub fn numbers(
 
 /// Prints the digests of the files of the image in a file, or that of the image. At a terminal,
 /// names are shown as in a list.
-pub fn digest(reporter: &Reporter<'_>, asked: Digest<'_>) -> Result<Status, Status> {
-    let loaded = loaded_data(reporter, asked.image)?;
-    let image = checked(reporter, asked.image, &loaded.bytes)?;
+///
+/// # Errors
+///
+/// Any stop of an image that is not valid.
+#[inline(never)]
+pub fn digest(reporter: &Reporter<'_>, asked: Digest<'_>) -> Result<Status, Stop> {
+    let loaded = loaded_data(reporter.rt, reporter.most, asked.image)?;
+    let image = checked(asked.image, &loaded.bytes, reporter.words())?;
     let alloc = reporter.rt.alloc();
-    let (mut out, mut err) = (output(reporter)?, errors(reporter.rt));
+    let (mut out, mut err) = (output(reporter.rt)?, errors(reporter.rt));
     let ending = if asked.whole {
         print_image_digest(image.bytes(), &mut out, &mut err)
     } else if reporter.rt.stdout().is_terminal() {
-        print_digests(alloc, &image, &mut terminal(reporter)?, &mut err)
+        print_digests(alloc, &image, &mut terminal(reporter.rt)?, &mut err)
     } else {
         print_digests(alloc, &image, &mut out, &mut err)
     };
@@ -331,23 +342,33 @@ pub fn digest(reporter: &Reporter<'_>, asked: Digest<'_>) -> Result<Status, Stat
 }
 
 /// Prints the differences of the images in two files.
-pub fn diff(reporter: &Reporter<'_>, asked: Diff<'_>) -> Result<Status, Status> {
+///
+/// # Errors
+///
+/// Any stop of the first image that is not valid.
+#[inline(never)]
+pub fn diff(reporter: &Reporter<'_>, asked: Diff<'_>) -> Result<Status, Stop> {
     let (alloc, places) = (reporter.rt.alloc(), !asked.tree);
-    let old_loaded = loaded_data(reporter, asked.old)?;
-    let old = checked(reporter, asked.old, &old_loaded.bytes)?;
-    let new_loaded = loaded_data(reporter, asked.new)?;
-    let new = checked(reporter, asked.new, &new_loaded.bytes)?;
-    let (mut out, mut err) = (output(reporter)?, errors(reporter.rt));
+    let old_loaded = loaded_data(reporter.rt, reporter.most, asked.old)?;
+    let old = checked(asked.old, &old_loaded.bytes, reporter.words())?;
+    let new_loaded = loaded_data(reporter.rt, reporter.most, asked.new)?;
+    let new = checked(asked.new, &new_loaded.bytes, reporter.words())?;
+    let (mut out, mut err) = (output(reporter.rt)?, errors(reporter.rt));
     let ending = print_diff(alloc, &old, &new, places, &mut out, &mut err);
     reporter.finish(err, ending, b"");
     Ok(ending.status())
 }
 
 /// Compares the image in a file with a dump, and prints the result.
-pub fn verify(reporter: &Reporter<'_>, asked: Verify<'_>) -> Result<Status, Status> {
-    let loaded = loaded_data(reporter, asked.image)?;
-    let image = checked(reporter, asked.image, &loaded.bytes)?;
-    let (mut out, mut err) = (output(reporter)?, errors(reporter.rt));
+///
+/// # Errors
+///
+/// `Unread` for the dump; any stop of an image that is not valid.
+#[inline(never)]
+pub fn verify(reporter: &Reporter<'_>, asked: Verify<'_>) -> Result<Status, Stop> {
+    let loaded = loaded_data(reporter.rt, reporter.most, asked.image)?;
+    let image = checked(asked.image, &loaded.bytes, reporter.words())?;
+    let (mut out, mut err) = (output(reporter.rt)?, errors(reporter.rt));
     let dump = DumpFile {
         rt: reporter.rt,
         name: asked.dump,
@@ -360,7 +381,7 @@ pub fn verify(reporter: &Reporter<'_>, asked: Verify<'_>) -> Result<Status, Stat
         &mut err,
     ) {
         Ok(verified) => verified,
-        Err(e) => return Err(reporter.unread(asked.dump.as_bytes(), &Unread::Refused(e))),
+        Err(e) => return Err(unread(reporter.rt.alloc(), asked.dump, Unread::Refused(e.into()))),
     };
     reporter.finish(err, ending, b"");
     if reporter.is_explained()

@@ -1,19 +1,20 @@
 //! Scans directories as they are, with all that is below them.
-use crate::directories::all_stayed;
-use crate::lister::{self, Survey};
 use crate::patterns::Patterns;
-use crate::reporter::Reporter;
+use crate::stop::{Noted, Stop, named};
 use crate::written::Written;
-use build_commands::inventory::{FileKind, Inode, NamedFile};
+use build_commands::inventory::{Device, FileKind, Inode, NamedFile};
 use command_line::ScanAll;
 use directory_walk::{Directory, Entry};
-use rom_commands::{Ending, Status};
-use sentences::reasons::{FOLDER_CHANGED, NO_KIND, NO_PART, PART_LEFT_OUT, WHITEOUT};
+use sentences::reason_sentence;
+use sentences::reasons::{NO_PART, PART_LEFT_OUT};
 use std::alloc::{AllocError, Global};
-use std::fs::{self, Metadata};
-use std::io;
+use std::fs::Metadata;
 use std::os::unix::fs::{FileTypeExt, MetadataExt};
-use system_files::{Stamp, base, device_of, is_marked, is_part_of, let_rest};
+use system_files::lister::{self, Survey};
+use system_files::{
+    DeviceNumbers, FileError, Reason, Refusal, Stamp, base, device_of, directories_stayed,
+    is_marked, is_part_of, let_rest, link_text, name_stayed, unlinked,
+};
 
 /// The bits of a mode without the kind of a file.
 const MODE_BITS: u32 = 0o7777;
@@ -21,27 +22,33 @@ const MODE_BITS: u32 = 0o7777;
 /// The alignment of a file for which no other one is chosen.
 const USUAL_ALIGN: u32 = 4;
 
+/// The numbers of a device with these attributes.
+fn numbers_of(metadata: &Metadata) -> Device {
+    let DeviceNumbers { major, minor } = device_of(metadata.rdev());
+    Device { major, minor }
+}
+
 /// The kind of the file with this name and these attributes.
-fn kind_of(rt: &HostRuntime, place: &str, metadata: &Metadata) -> io::Result<FileKind> {
+fn kind_of(rt: &HostRuntime, place: &str, metadata: &Metadata) -> Result<FileKind, Refusal> {
     let kind = metadata.file_type();
     Ok(if kind.is_dir() {
         FileKind::Directory
     } else if kind.is_file() {
         FileKind::Regular
     } else if kind.is_symlink() {
-        FileKind::Symlink(fs::read_link(rt, place)?.into_string())
+        FileKind::Symlink(link_text(rt, place)?)
     } else if kind.is_block_device() {
-        FileKind::Block(device_of(metadata.rdev()))
+        FileKind::Block(numbers_of(metadata))
     } else if kind.is_char_device() && metadata.rdev() == 0 {
-        return Err(io::Error::new(io::ErrorKind::Unsupported, WHITEOUT));
+        return Err(Reason::Whiteout.into());
     } else if kind.is_char_device() {
-        FileKind::Character(device_of(metadata.rdev()))
+        FileKind::Character(numbers_of(metadata))
     } else if kind.is_fifo() {
         FileKind::Fifo
     } else if kind.is_socket() {
         FileKind::Socket
     } else {
-        return Err(io::Error::new(io::ErrorKind::Unsupported, NO_KIND));
+        return Err(Reason::NoKind.into());
     })
 }
 
@@ -60,7 +67,7 @@ struct Reported {
 
 impl Reported {
     /// The file with this name and these attributes.
-    fn of(rt: &HostRuntime, place: &str, metadata: &Metadata) -> io::Result<Reported> {
+    fn of(rt: &HostRuntime, place: &str, metadata: &Metadata) -> Result<Reported, Refusal> {
         Ok(Reported {
             kind: kind_of(rt, place, metadata)?,
             mode: metadata.mode() & MODE_BITS,
@@ -91,47 +98,43 @@ impl Reported {
     }
 }
 
-/// A name, and what is said of it: a name in a directory or the text of a link that is no UTF-8, or
-/// a file with the name of a part.
-#[derive(Drop)]
-struct Noted {
-    place: String,
-    why: &'static str,
-}
-
 /// A survey of files of all kinds that are not excluded and are no parts of the files that are
 /// written.
 #[derive(Drop)]
 struct Whole<'a> {
     patterns: &'a Patterns,
     written: &'a [Written<'a>],
+    /// Names in directories and texts of links that are no UTF-8.
     foreign: Vec<Noted>,
+    /// Files with names of parts.
     parts: Vec<Noted>,
 }
 
 impl Whole<'_> {
-    /// Reports all names and texts that are no UTF-8, in the order of the bytes of names.
-    fn all_texts(&mut self, reporter: &Reporter<'_>) -> Result<(), Status> {
-        if self.foreign.sort_by(|a, b| a.place.cmp(&b.place)).is_err() {
-            return Err(reporter.say(Ending::Memory));
-        }
-        let mut status = Ok(());
-        for foreign in &self.foreign {
-            status = Err(reporter.failed(foreign.place.as_bytes(), &foreign.why));
-        }
-        status
-    }
-
-    /// Explains which files have names of parts.
-    fn explain_parts(&self, reporter: &Reporter<'_>) {
-        for part in &self.parts {
-            reporter.explain(part.place.as_bytes(), &part.why);
+    /// Refuses all names and texts that are no UTF-8, in the order of the bytes of names. Otherwise
+    /// returns the files with names of parts.
+    fn all_texts(self) -> Result<Vec<Noted>, Stop> {
+        let Whole {
+            mut foreign,
+            parts,
+            ..
+        } = self;
+        foreign.sort_by(|a: &Noted, b: &Noted| a.place.cmp(&b.place))?;
+        if foreign.is_empty() {
+            Ok(parts)
+        } else {
+            Err(Stop::FailedEach(foreign))
         }
     }
 
     /// Whether a file with these attributes is a part of a file that is written. Notes it if it has
     /// the name of one.
-    fn is_part(&mut self, rt: &HostRuntime, place: &str, found: &Metadata) -> io::Result<bool> {
+    fn is_part(
+        &mut self,
+        rt: &HostRuntime,
+        place: &str,
+        found: &Metadata,
+    ) -> Result<bool, AllocError> {
         if !self
             .written
             .iter()
@@ -159,30 +162,21 @@ impl Survey for Whole<'_> {
         rt: &HostRuntime,
         place: &str,
         metadata: &Metadata,
-    ) -> io::Result<Option<Reported>> {
+    ) -> Result<Option<Reported>, Refusal> {
         if self.is_part(rt, place, metadata)? {
             return Ok(None);
         }
         if let_rest(rt, &[Stamp::of(metadata)]) {
-            let rested = fs::symlink_metadata(rt, place)?;
+            let rested = unlinked(rt, place)?;
             return Ok(Some(Reported::of(rt, place, &rested)?));
         }
         Ok(Some(Reported::of(rt, place, metadata)?))
     }
 
-    fn note(
-        &mut self,
-        reporter: &Reporter<'_>,
-        name: &str,
-        why: &'static str,
-    ) -> Result<(), Status> {
-        let Ok(place) = String::from_str(reporter.rt.alloc(), name) else {
-            return Err(reporter.say(Ending::Memory));
-        };
-        match self.foreign.push(Noted { place, why }) {
-            Ok(()) => Ok(()),
-            Err(_) => Err(reporter.say(Ending::Memory)),
-        }
+    fn note(&mut self, alloc: Global, name: &str, why: Reason) -> Result<(), FileError> {
+        let (place, why) = (String::from_str(alloc, name)?, reason_sentence(why));
+        self.foreign.push(Noted { place, why })?;
+        Ok(())
     }
 }
 
@@ -193,34 +187,31 @@ struct Scanned<'a> {
     entered: Vec<Directory<Stamp>>,
 }
 
-/// The files that were found, with the state of each.
+/// The files that were found, with the state of each, and which of them have names of parts of the
+/// files that are written, or were left out for that.
 #[derive(Drop)]
 pub struct Found {
     pub files: Vec<NamedFile>,
     pub states: Vec<Stamp>,
+    pub parts: Vec<Noted>,
 }
 
 impl Found {
     /// Adds a file with its name, in which this number of bytes are in front of the path.
-    fn add(&mut self, reported: Reported, place: String, front: usize) -> io::Result<()> {
+    fn add(&mut self, reported: Reported, place: String, front: usize) -> Result<(), AllocError> {
         self.states.push(reported.state)?;
         self.files.push(reported.named(place, front))?;
         Ok(())
     }
 
-    /// Reports the first file, except directories, that changed since it was found. If none did,
+    /// Refuses the first file, except directories, that changed since it was found. If none did,
     /// all files had what was found of them at one time.
-    fn check_unchanged(&self, reporter: &Reporter<'_>) -> Result<(), Status> {
+    fn check_unchanged(&self, rt: &HostRuntime) -> Result<(), FileError> {
         for (file, state) in self.files.iter().zip(&self.states) {
             if matches!(file.kind, FileKind::Directory) {
                 continue;
             }
-            let name = file.place.as_bytes();
-            match fs::symlink_metadata(reporter.rt, &file.place) {
-                Ok(now) if Stamp::of(&now) == *state => {}
-                Ok(_) => return Err(reporter.failed(name, &FOLDER_CHANGED)),
-                Err(e) => return Err(reporter.refused(name, &e)),
-            }
+            name_stayed(rt, &file.place, state)?;
         }
         Ok(())
     }
@@ -233,7 +224,7 @@ fn add_all(
     top: &str,
     metadata: &Metadata,
     entries: Vec<Entry<Reported>>,
-) -> io::Result<()> {
+) -> Result<(), Refusal> {
     let place = String::from_str(rt.alloc(), base(top))?;
     let front = place.len();
     found.add(Reported::of(rt, base(top), metadata)?, place, front)?;
@@ -244,17 +235,25 @@ fn add_all(
 }
 
 /// Returns the directories of a scan and all files below them, except excluded ones and parts of
-/// the files that are written. The files of each directory are together. Reports each file that
-/// cannot be read, and one that changed during the scan.
+/// the files that are written. The files of each directory are together.
+///
+/// # Errors
+///
+/// `FailedEach` for names that are no UTF-8; `Refused` for a file that changed during the scan, or
+/// cannot be read; `Memory`.
 pub fn all_below(
-    reporter: &Reporter<'_>,
+    rt: &HostRuntime,
     scan: &ScanAll<'_>,
     patterns: &Patterns,
     written: &[Written<'_>],
-) -> Result<Found, Status> {
-    let alloc = reporter.rt.alloc();
-    let (files, states) = (Vec::new(alloc), Vec::new(alloc));
-    let (mut found, mut entered) = (Found { files, states }, Vec::new(alloc));
+) -> Result<Found, Stop> {
+    let alloc = rt.alloc();
+    let mut entered = Vec::new(alloc);
+    let mut found = Found {
+        files: Vec::new(alloc),
+        states: Vec::new(alloc),
+        parts: Vec::new(alloc),
+    };
     let mut whole = Whole {
         patterns,
         written,
@@ -262,34 +261,25 @@ pub fn all_below(
         parts: Vec::new(alloc),
     };
     for top in &scan.directories {
-        let (metadata, walked) = lister::all_below(
-            reporter,
-            top,
-            scan.one_file_system,
-            &mut whole,
-        )?;
-        if let Err(e) = add_all(reporter.rt, &mut found, top, &metadata, walked.entries) {
-            return Err(reporter.refused(top.as_bytes(), &e));
-        }
-        if entered.push(walked.directories).is_err() {
-            return Err(reporter.say(Ending::Memory));
-        }
+        let (metadata, walked) = lister::all_below(rt, top, scan.one_file_system, &mut whole)?;
+        let added = add_all(rt, &mut found, top, &metadata, walked.entries);
+        named(alloc, top, added)?;
+        entered.push(walked.directories)?;
     }
-    whole.all_texts(reporter)?;
-    stayed(reporter, &scan.directories, &entered)?;
-    found.check_unchanged(reporter)?;
-    whole.explain_parts(reporter);
+    found.parts = whole.all_texts()?;
+    stayed(rt, &scan.directories, &entered)?;
+    found.check_unchanged(rt)?;
     Ok(found)
 }
 
-/// Reports which of the directories that were entered below each scanned one changed, if one did.
+/// Checks that the directories that were entered below each scanned one are as they were found.
 fn stayed(
-    reporter: &Reporter<'_>,
+    rt: &HostRuntime,
     tops: &[&str],
     entered: &[Vec<Directory<Stamp>>],
-) -> Result<(), Status> {
+) -> Result<(), FileError> {
     for (top, directories) in tops.iter().zip(entered) {
-        all_stayed(reporter, top, directories)?;
+        directories_stayed(rt, top, directories)?;
     }
     Ok(())
 }

@@ -3,9 +3,10 @@ ghost use Rattle.std.specs.Prelude.{◌≡◌, Ok};
 ghost use Rattle.manifest.specs.Grammar.{manifest_of};
 
 use crate::scan_all::ScannedText;
-use crate::watched::{States, Watched};
+use crate::watched::States;
 use manifest::Manifest;
 use sentences::plan_line::line_of_source;
+use system_files::Watched;
 
 /// A manifest, and the name of its file.
 #[derive(Clone, Copy)]

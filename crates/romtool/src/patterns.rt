@@ -1,9 +1,9 @@
 //! The patterns of a scan, for excluded paths and for alignments, and those of a map and of an
 //! extraction.
-use crate::reporter::Reporter;
+use crate::stop::{Stop, usage};
 use command_line::ScanAll;
 use path_patterns::{PatternError, Piece, characters, matches, pieces_of};
-use rom_commands::{Ending, Only, Status};
+use rom_commands::Only;
 use sentences::reasons::{PATTERN_CLASS, PATTERN_UNFINISHED};
 use std::alloc::{AllocError, Global};
 
@@ -27,48 +27,53 @@ fn read(alloc: Global, pattern: &str) -> Result<Vec<Piece>, PatternError> {
     pieces_of(alloc, &text)
 }
 
-/// The pieces of a pattern. Reports why a text is not a pattern.
-fn pieces(reporter: &Reporter<'_>, pattern: &str) -> Result<Vec<Piece>, Status> {
-    let why = match read(reporter.rt.alloc(), pattern) {
-        Ok(pieces) => return Ok(pieces),
-        Err(PatternError::OutOfMemory) => return Err(reporter.say(Ending::Memory)),
-        Err(PatternError::Unfinished) => PATTERN_UNFINISHED,
-        Err(PatternError::Class) => PATTERN_CLASS,
-    };
-    let status = reporter.say(Ending::Usage);
-    reporter.explain(pattern.as_bytes(), &why);
-    Err(status)
+/// The pieces of a pattern.
+fn pieces(alloc: Global, pattern: &str) -> Result<Vec<Piece>, Stop> {
+    match read(alloc, pattern) {
+        Ok(pieces) => Ok(pieces),
+        Err(PatternError::OutOfMemory) => Err(Stop::Memory),
+        Err(PatternError::Unfinished) => Err(usage(alloc, pattern, PATTERN_UNFINISHED)),
+        Err(PatternError::Class) => Err(usage(alloc, pattern, PATTERN_CLASS)),
+    }
 }
 
-/// Returns the pieces of several patterns. Reports why a text is not a pattern.
-pub fn all_pieces(reporter: &Reporter<'_>, texts: &[&str]) -> Result<Vec<Vec<Piece>>, Status> {
-    let mut patterns = Vec::new(reporter.rt.alloc());
+/// Returns the pieces of several patterns.
+///
+/// # Errors
+///
+/// `Usage` for a text that is not a pattern; `Memory`.
+pub fn all_pieces(alloc: Global, texts: &[&str]) -> Result<Vec<Vec<Piece>>, Stop> {
+    let mut patterns = Vec::new(alloc);
     for text in texts {
-        if patterns.push(pieces(reporter, text)?).is_err() {
-            return Err(reporter.say(Ending::Memory));
-        }
+        patterns.push(pieces(alloc, text)?)?;
     }
     Ok(patterns)
 }
 
-/// Returns the choice of the files of a map by these patterns. Reports why a text is not a pattern.
-pub fn only(reporter: &Reporter<'_>, texts: &[&str]) -> Result<Only, Status> {
+/// Returns the choice of the files of a map by these patterns.
+///
+/// # Errors
+///
+/// `Usage` for a text that is not a pattern; `Memory`.
+pub fn only(alloc: Global, texts: &[&str]) -> Result<Only, Stop> {
     Ok(Only {
-        alloc: reporter.rt.alloc(),
-        patterns: all_pieces(reporter, texts)?,
+        alloc,
+        patterns: all_pieces(alloc, texts)?,
     })
 }
 
 impl Patterns {
-    /// Returns the patterns of a scan. Reports why a text is not a pattern.
-    pub fn of(reporter: &Reporter<'_>, scan: &ScanAll<'_>) -> Result<Patterns, Status> {
-        let excludes = all_pieces(reporter, &scan.excludes)?;
-        let mut aligns = Vec::new(reporter.rt.alloc());
+    /// Returns the patterns of a scan.
+    ///
+    /// # Errors
+    ///
+    /// `Usage` for a text that is not a pattern; `Memory`.
+    pub fn of(alloc: Global, scan: &ScanAll<'_>) -> Result<Patterns, Stop> {
+        let excludes = all_pieces(alloc, &scan.excludes)?;
+        let mut aligns = Vec::new(alloc);
         for rule in &scan.aligns {
-            let (pieces, align) = (pieces(reporter, rule.pattern)?, rule.align);
-            if aligns.push(AlignPattern { pieces, align }).is_err() {
-                return Err(reporter.say(Ending::Memory));
-            }
+            let (pieces, align) = (pieces(alloc, rule.pattern)?, rule.align);
+            aligns.push(AlignPattern { pieces, align })?;
         }
         Ok(Patterns { excludes, aligns })
     }

@@ -5,11 +5,11 @@ ghost use Rattle.rom_commands.specs.Asked.{Fits};
 use crate::arguments::words;
 use crate::printed::asked_by;
 use crate::reporter::Reporter;
-use crate::streams::hold_closed;
+use crate::stop::Stop;
 use crate::{building, inspect, packing, scan_all, scanning, serving, version};
 use command_line::{Limited, MapForm, Request, read};
-use rom_commands::{Asked, Ending, Status, hello};
-use system_files::settle_output;
+use rom_commands::{Asked, Status, hello};
+use system_files::{hold_closed, settle_output};
 
 /// The text after the list of the example image.
 const EXAMPLE: &str =
@@ -22,7 +22,7 @@ pub fn run(rt: &HostRuntime) -> u8
     let reporter = &Reporter::new(rt);
     let _held = match hold_closed(rt) {
         Ok(held) => held,
-        Err(e) => return reporter.refused(b"/", &e).code(),
+        Err(e) => return reporter.refused(b"/", e.into()).code(),
     };
     let words = match words(rt) {
         Ok(words) => words,
@@ -31,31 +31,55 @@ pub fn run(rt: &HostRuntime) -> u8
     match read(rt.alloc(), words.as_slice()) {
         Ok(Limited { request, most }) => {
             let reporter = &reporter.with_most(most);
-            match done(reporter, request) {
-                Ok(status) | Err(status) => settled(reporter, status).code(),
-            }
+            let wordy = match &request {
+                Request::Pack(pack) => reporter.with_words(!pack.is_quiet),
+                _ => *reporter,
+            };
+            let status = said(&wordy, done(&wordy, request));
+            said(reporter, settled(rt, status)).code()
         }
         Err(error) => reporter.refused_words(error).code(),
     }
 }
 
-/// The final status of a command, after a check that standard output keeps what was written to it.
-fn settled(reporter: &Reporter<'_>, status: Status) -> Status {
-    match status {
-        Status::Done | Status::Refused if settle_output(reporter.rt).is_err() => {
-            reporter.say(Ending::WriteFault)
-        }
-        _ => status,
+/// The status of a command. Reports why it stopped, if it did.
+fn said(reporter: &Reporter<'_>, done: Result<Status, Stop>) -> Status {
+    match done {
+        Ok(status) => status,
+        Err(stop) => reporter.stopped(stop),
     }
 }
 
-/// Does what is asked for. `Err` is the status of a command that ended early.
-fn done(reporter: &Reporter<'_>, request: Request<'_>) -> Result<Status, Status> {
+/// The final status of a command, after a check that standard output keeps what was written to it.
+fn settled(rt: &HostRuntime, status: Status) -> Result<Status, Stop> {
+    match status {
+        Status::Done | Status::Refused if settle_output(rt).is_err() => Err(Stop::unwritten()),
+        _ => Ok(status),
+    }
+}
+
+/// Checks the images in files, one after the other, each after a line with its name. The status is
+/// the greatest of all.
+fn check_each(reporter: &Reporter<'_>, names: &[&str]) -> Result<Status, Stop> {
+    let mut greatest = Status::Done;
+    for name in names {
+        inspect::put_name(reporter.rt, name)?;
+        let status = said(reporter, inspect::file(reporter, name, Asked::Report));
+        if status.code() > greatest.code() {
+            greatest = status;
+        }
+    }
+    Ok(greatest)
+}
+
+/// Does what is asked for. Commands with large frames are not inlined, so none needs the stack of
+/// another.
+fn done(reporter: &Reporter<'_>, request: Request<'_>) -> Result<Status, Stop> {
     let asked = asked_by(&request);
     match request {
         Request::Example => example(reporter),
-        Request::Version => Ok(version::run(reporter)),
-        Request::CheckEach(images) => inspect::check_each(reporter, images.as_slice()),
+        Request::Version => version::run(reporter.rt),
+        Request::CheckEach(images) => check_each(reporter, images.as_slice()),
         Request::Check(image) | Request::List(image) => inspect::file(reporter, image, asked),
         Request::Info(info) => inspect::file(reporter, info.image, asked),
         Request::Linux(image) => inspect::file(reporter, image, asked),
@@ -72,16 +96,16 @@ fn done(reporter: &Reporter<'_>, request: Request<'_>) -> Result<Status, Status>
         Request::Diff(diff) => inspect::diff(reporter, diff),
         Request::Extract(extract) => inspect::extract(reporter, extract),
         Request::Serve(image) => serving::serve(reporter, image),
-        Request::Space(images) => Ok(serving::space(reporter, images.as_slice())),
-        Request::Build(build) => Ok(building::run(reporter, build)),
-        Request::Scan(scan) => Ok(scanning::run(reporter, scan)),
-        Request::Pack(pack) => Ok(packing::run(reporter, &pack)),
-        Request::ScanAll(scan) => Ok(scan_all::run(reporter, &scan)),
+        Request::Space(images) => serving::space(reporter, images.as_slice()),
+        Request::Build(build) => building::run(reporter, build),
+        Request::Scan(scan) => scanning::run(reporter, scan),
+        Request::Pack(pack) => packing::run(reporter, &pack),
+        Request::ScanAll(scan) => scan_all::run(reporter, &scan),
     }
 }
 
 /// Checks and lists the example image.
-fn example(reporter: &Reporter<'_>) -> Result<Status, Status> {
+fn example(reporter: &Reporter<'_>) -> Result<Status, Stop> {
     let image = hello();
     let checked = inspect::show(reporter, b"hello", &image, Asked::Report)?;
     if checked != Status::Done {

@@ -1,24 +1,28 @@
 //! Writes to standard error: a line of the protocol, and a line in words for people, if it is asked
 //! for or standard error is a terminal.
-ghost use Rattle.std.specs.Prelude.{◌≡◌};
+ghost use Rattle.std.specs.Prelude.{◌≡◌, true};
 ghost use Rattle.rom_commands.specs.Endings.{status_of};
+ghost use Rattle.romtool.specs.Stops.{IsAfter, IsAfterLine, is_refusal};
 
 use crate::arguments::NoWords;
-use crate::origin::Origin;
-use crate::reading::Unread;
+use crate::output::{coloured_lines, errors, lines};
+use crate::stop::{FrontOf, Line, Noted, Stop};
+use crate::warned;
+use crate::words::{Words, refusal_words, words_of};
+use build_commands::{print_bad_manifest, print_misfit, print_size, print_unfit};
 use command_line::{WordsError, is_explain, shown};
 use program_streams::Held;
-use rom_commands::{Ending, Status, report};
-use rom_faults::Fault;
-use rom_fields::Plain;
-use sentences::reasons::{NO_SLASH, NO_STREAM, NO_WORD, SOURCE_CHANGED};
+use rom_commands::{Ending, Status, refuse, refuse_in, report};
+use rom_fields::{Failed, Plain};
+use sentences::reasons::{NO_SLASH, NO_STREAM, NO_WORD};
 use sentences::words::escaped;
-use sentences::{call_sentence, ending_sentence, fault_sentence, image};
+use sentences::{call_sentence, ending_sentence};
 use std::alloc::AllocError;
 use std::env::{Env, FillError};
 use std::fmt::Display;
 use std::io::{self, IsTerminal, Write};
 use std_io::io::last_error;
+use system_files::{Front, Refusal};
 
 /// The number of bytes of the word that asks to explain.
 const EXPLAIN_LEN: usize = 9;
@@ -63,10 +67,10 @@ fn is_set(rt: &HostRuntime) -> bool {
     }
 }
 
-/// Whether standard output failed since nobody reads it any more, by the number of the last error.
-/// Then nothing is explained.
-fn is_left(ending: Ending<'_>) -> bool {
-    ending == Ending::WriteFault && last_error().raw_os_error() == Some(NO_READER)
+/// Whether standard output failed since nobody reads it any more, by the number of the system's
+/// error. Then nothing is explained.
+fn is_left(ending: Ending<'_>, reason: &io::Error) -> bool {
+    ending == Ending::WriteFault && reason.raw_os_error() == Some(NO_READER)
 }
 
 /// The sentence of an ending, if it has one. The sentence of a fault needs the image.
@@ -130,6 +134,23 @@ impl<'a> Reporter<'a> {
         self.is_explained
     }
 
+    /// Returns no words yet, of which those are kept that are said.
+    pub fn words(&self) -> Words {
+        Words::new(self.rt.alloc(), self.is_explained)
+    }
+
+    /// Says all these words, if words are asked for.
+    pub fn tell(&self, words: &Words) {
+        for sentence in words.all() {
+            self.explain(&sentence.place, &sentence.what);
+        }
+    }
+
+    /// Returns whether requests are typed at a terminal, and words are asked for.
+    pub fn is_typed(&self) -> bool {
+        self.is_explained && self.rt.stdin().is_terminal()
+    }
+
     /// Writes a text on standard error as it is.
     pub fn put(&self, text: &[u8]) {
         let mut err = Held::new(self.rt.alloc(), self.rt.stderr());
@@ -164,15 +185,25 @@ impl<'a> Reporter<'a> {
     /// Writes what a command held back for standard error, and explains how it ended. The path is
     /// that of the file in an image that the command was about. A fault is not explained here.
     pub fn finish<X: Write + Drop>(&self, err: Plain<Held<X>>, ending: Ending<'_>, path: &[u8]) {
+        self.finish_for(err, ending, path, &last_error());
+    }
+
+    /// Does the same, for this last error of the system.
+    fn finish_for<X: Write + Drop>(
+        &self,
+        err: Plain<Held<X>>,
+        ending: Ending<'_>,
+        path: &[u8],
+        reason: &io::Error,
+    ) {
         let mut held = err.into_inner();
-        let (is_left, reason) = (is_left(ending), last_error());
         let _ = held.flush();
         if let Some(sentence) = sentence_of(ending)
-            && !is_left
+            && !is_left(ending, reason)
         {
             let place = place_of(ending, path);
             if ending == Ending::WriteFault
-                && let Ok(words) = self.with_reason(sentence, &reason)
+                && let Ok(words) = self.with_reason(sentence, reason)
             {
                 self.explain(place, &words);
             } else {
@@ -183,7 +214,7 @@ impl<'a> Reporter<'a> {
 
     /// A sentence, followed by the operating system's words for an error.
     fn with_reason(&self, sentence: &str, e: &io::Error) -> Result<String, AllocError> {
-        let words = self.words_of(e)?;
+        let words = words_of(self.rt.alloc(), e)?;
         format!(in self.rt.alloc(); "{sentence}: {words}")
     }
 
@@ -203,12 +234,14 @@ impl<'a> Reporter<'a> {
     /// Explains the fault with which a command on the image in the file of this name ended.
     pub fn explain_ending(&self, ending: Ending<'_>, name: &[u8], bytes: &[u8]) {
         if let Ending::Fault { fault, .. } = ending {
-            self.explain_fault(name, bytes, fault);
+            let mut words = self.words();
+            words.add_fault(name, bytes, fault);
+            self.tell(&words);
         }
     }
 
     /// Reports that a file could not be read, listed or written, and why.
-    pub fn failed<W: Display>(&self, name: &[u8], why: &W) -> Status
+    fn failed<W: Display>(&self, name: &[u8], why: &W) -> Status
         ensures { result ≡ Status.Failed }
     {
         let status = self.say(Ending::File(name));
@@ -216,123 +249,135 @@ impl<'a> Reporter<'a> {
         status
     }
 
-    /// Reports that a file changed while it was read, and how that was noticed.
-    pub fn changed<W: Display>(&self, name: &[u8], why: &W) -> Status
+    /// Reports why an operation on a file was refused: memory, or the file.
+    pub fn refused(&self, name: &[u8], why: Refusal) -> Status
         ensures { result ≡ Status.Failed }
     {
-        let status = self.say(Ending::Changed);
-        self.explain(name, why);
-        status
-    }
-
-    /// Reports why the system refused an operation on a file: memory, or the file.
-    pub fn refused(&self, name: &[u8], e: &io::Error) -> Status
-        ensures { result ≡ Status.Failed }
-    {
-        if e.kind() == io::ErrorKind::OutOfMemory {
+        if why.is_memory() {
             return self.say(Ending::Memory);
         }
-        self.failed_by(name, e)
-    }
-
-    /// Reports why a file was not read: it changed, or the system refused it.
-    pub fn unread(&self, name: &[u8], why: &Unread) -> Status
-        ensures { result ≡ Status.Failed }
-    {
-        match why {
-            Unread::Changed => self.changed(name, &SOURCE_CHANGED),
-            Unread::Refused(e) => {
-                let status = self.refused(name, e);
-                if name == b"-".as_slice() {
-                    self.explain(name, &NO_STREAM);
-                }
-                status
-            }
-        }
-    }
-
-    /// Reports that a file could not be written, and the operating system's reason.
-    pub fn failed_by(&self, name: &[u8], e: &io::Error) -> Status
-        ensures { result ≡ Status.Failed }
-    {
         let status = self.say(Ending::File(name));
         if self.is_explained
-            && let Ok(words) = self.words_of(e)
+            && let Ok(words) = refusal_words(self.rt.alloc(), why)
         {
             self.explain(name, &words);
         }
         status
     }
 
-    /// Does the same for a source, and reports its line of the manifest as well.
-    pub fn refused_source(&self, origin: Origin<'_>, number: usize, e: &io::Error) -> Status
+    /// Reports why a file was not read.
+    fn unread(&self, name: &[u8], why: Refusal) -> Status
         ensures { result ≡ Status.Failed }
     {
-        let name = origin.source(number);
-        if e.kind() == io::ErrorKind::OutOfMemory {
-            return self.say(Ending::Memory);
+        let status = self.refused(name, why);
+        if name == b"-".as_slice() {
+            self.explain(name, &NO_STREAM);
         }
-        let status = self.say(Ending::File(name));
-        self.explain_error(origin, number, e);
         status
     }
 
-    /// Explains why the system refused a source.
-    pub fn explain_error(&self, origin: Origin<'_>, number: usize, e: &io::Error) {
-        if self.is_explained
-            && let Ok(words) = self.words_of(e)
-        {
-            self.explain_source(origin, number, &words);
+    /// Reports that standard output did not take everything, for this reason of the system.
+    fn unwritten(&self, reason: &io::Error) -> Status
+        ensures { result ≡ Status.Failed }
+    {
+        let mut err = Plain::new(Held::new(self.rt.alloc(), self.rt.stderr()));
+        let status = report(Ending::WriteFault, &mut err);
+        self.finish_for(err, Ending::WriteFault, b"", reason);
+        status
+    }
+
+    /// Reports how a command ended early, and explains it.
+    fn ended(&self, ending: Ending<'_>, place: &str, why: &'static str) -> Status
+        ensures { result ≡ status_of ending.entry }
+    {
+        let status = self.say(ending);
+        self.explain(place.as_bytes(), &why);
+        status
+    }
+
+    /// Reports which of these files are not as they have to be.
+    fn failed_each(&self, all: &[Noted]) -> Status
+        ensures { result ≡ Status.Failed }
+    {
+        for file in all {
+            self.failed(file.place.as_bytes(), &file.why);
+        }
+        Status::Failed
+    }
+
+    /// Returns the status of a refusal whose line was written. Reports that it was not.
+    pub fn printed(&self, written: Result<(), Failed>) -> Status
+        ensures { is_refusal result ≡ true }
+    {
+        match written {
+            Ok(()) => Status::Refused,
+            Err(Failed) => self.say(Ending::WriteFault),
         }
     }
 
-    /// Explains something about a source, and where the manifest names it.
-    pub fn explain_source<W: Display>(&self, origin: Origin<'_>, number: usize, what: &W) {
-        if self.is_explained {
-            let _ = self.try_explain_source(origin, number, what);
+    /// Reports that the first bytes of a file refuse it as an image.
+    fn refused_front(&self, name: &[u8], front: &Front, of: FrontOf) -> Status {
+        let (fault, mut err) = (front.fault, errors(self.rt));
+        let ending = match of {
+            FrontOf::Data => {
+                let ending = Ending::Fault { fault, image: None };
+                report(ending, &mut err);
+                ending
+            }
+            FrontOf::One(asked) => refuse(fault, asked, &mut coloured_lines(self.rt), &mut err),
+            FrontOf::Several(image) => refuse_in(fault, image, &mut lines(self.rt), &mut err),
+        };
+        self.finish_image(err, ending, name, &front.bytes);
+        ending.status()
+    }
+
+    /// Writes the line by which a command stops.
+    fn say_line(&self, line: Line) -> Status
+        ensures { IsAfterLine line result }
+    {
+        match line {
+            Line::Of(ending) => self.say(ending),
+            Line::File(name) => self.say(Ending::File(&name)),
+            Line::BadManifest { line, number } => {
+                self.printed(print_bad_manifest(&mut lines(self.rt), line, number))
+            }
+            Line::Misfit { line, number } => {
+                self.printed(print_misfit(&mut lines(self.rt), line, number))
+            }
+            Line::Unfit(counts) => {
+                // the status says it, even if standard error accepts no line
+                let _ = print_unfit(&mut errors(self.rt), counts);
+                Status::Refused
+            }
         }
     }
 
-    fn try_explain_source<W: Display>(
-        &self,
-        origin: Origin<'_>,
-        number: usize,
-        what: &W,
-    ) -> Result<(), AllocError> {
-        let alloc = self.rt.alloc();
-        let manifest = escaped(alloc, origin.name.as_bytes())?;
-        let line = origin.line(number);
-        let what = format!(in alloc; "{what} ({manifest}:{line})")?;
-        self.try_explain(origin.source(number), &what)
-    }
-
-    /// The operating system's words for an error, without its number.
-    fn words_of(&self, e: &io::Error) -> Result<String, AllocError> {
-        let alloc = self.rt.alloc();
-        let words = format!(in alloc; "{e}")?;
-        match words.as_str().split_once(" (os error ") {
-            Some((front, _)) => String::from_str(alloc, front),
-            None => Ok(words),
+    /// Reports why a command stops.
+    pub fn stopped(&self, stop: Stop) -> Status
+        ensures { IsAfter stop result }
+    {
+        match stop {
+            Stop::Memory => self.say(Ending::Memory),
+            Stop::Unwritten(reason) => self.unwritten(&reason),
+            Stop::Refused(name, why) => self.refused(name.as_bytes(), why),
+            Stop::Unread(name, why) => self.unread(name.as_bytes(), why),
+            Stop::Failed(name, why) => self.failed(name.as_bytes(), &why),
+            Stop::FailedEach(all) => self.failed_each(&all),
+            Stop::Changed(name, why) => self.ended(Ending::Changed, &name, why),
+            Stop::Usage(word, why) => self.ended(Ending::Usage, &word, why),
+            Stop::Front(name, front, of) => self.refused_front(name.as_bytes(), &front, of),
+            Stop::TooLarge { out, len, most } => {
+                let status = self.printed(print_size(&mut lines(self.rt), len, most));
+                warned::explain_size(self, &out, len, most);
+                status
+            }
+            Stop::Told(line, words) => {
+                let status = self.say_line(line);
+                self.tell(&words);
+                status
+            }
+            Stop::Said(status) => status,
         }
-    }
-
-    /// Explains which fault a file has, by all its bytes or by its first ones.
-    pub fn explain_fault(&self, name: &[u8], bytes: &[u8], fault: Fault) {
-        if self.is_explained {
-            let _ = self.try_explain_fault(name, bytes, fault);
-        }
-    }
-
-    fn try_explain_fault(&self, name: &[u8], bytes: &[u8], fault: Fault) -> Result<(), AllocError> {
-        let alloc = self.rt.alloc();
-        let Fault { number, at } = fault;
-        let (short, sentence) = (rom_faults::name(number), fault_sentence(number));
-        let seen = image::seen(alloc, bytes, number, at)?;
-        let colon = if seen.is_empty() { "" } else { ": " };
-        let what = format!(in alloc;
-            "{short} ({number}) at {at}: {sentence}{colon}{seen}; see FAULTS, {number} {short}"
-        )?;
-        self.try_explain(name, &what)
     }
 
     /// Reports that a word of the command line cannot be read.

@@ -1,49 +1,57 @@
 //! The manifest of directories as they are.
-use crate::aligning::{AlignRules, align_all, share_alignments};
-use crate::devices::{LineError, Listing, text_of_file};
+use crate::aligning::{AlignRules, align_all};
+use crate::depfile;
+use crate::devices::{in_list, in_table, refuse, text_of_file};
 use crate::equal::share_equal;
-use crate::faked::check_faked;
 use crate::inventory::all_below;
-use crate::overlay::{OverlayError, file_at, is_directory, laid_over, sort};
+use crate::output::output;
 use crate::patterns::Patterns;
 use crate::reporter::Reporter;
-use crate::rights::{Change, RightsError, set_all};
+use crate::stop::{Stop, changed, failed, refused, unopened, usage};
 use crate::unfit::Unfit;
-use crate::watched::{States, Watched};
+use crate::watched::States;
+use crate::words::Words;
 use crate::written::files_written;
-use crate::{depfile, device_table, devices, reading};
 use build_commands::Rule;
+use build_commands::alignments::share_alignments;
 use build_commands::inventory::{FileKind, NamedFile, lines, put_found};
+use build_commands::listing::{BadLine, Listing, Why};
+use build_commands::overlay::{OverlayError, is_directory, laid_over};
+use build_commands::rights::{Attributes, Change, RightsError, file_at, set_all};
 use command_line::{Owner, ScanAll};
 use manifest::Entry;
 use manifest::error::BAD_TARGET;
-use program_streams::Again;
-use rom_commands::{Ending, Status};
+use rom_commands::Status;
 use rom_fields::{Failed, Plain};
 use sentences::reasons::{
-    KINDS_DIFFER, LONG_NAME, MANIFEST_NOT_TAKEN, NO_SUCH_FILE, OWN_ERROR, OWN_FILE, OWN_STREAM,
-    PART_REPLACED,
+    KINDS_DIFFER, LONG_NAME, MANIFEST_NOT_TAKEN, OWN_FILE, OWN_STREAM, PART_REPLACED,
 };
 use std::alloc::{AllocError, Global};
-use std::io::{self, BufWriter};
-use std::{env, fs};
-use system_files::{Identity, KeepError, Target, own_output};
+use system_files::{
+    Identity, KeepError, Outputs, Reason, Target, Watched, current_directory, identity_of,
+    is_unfaked, reading,
+};
 
 /// The most bytes of a volume's name.
 const MOST_VOLUME: usize = 255;
 
-/// Lays files over one another. Reports a file that cannot replace another one.
-fn laid(reporter: &Reporter<'_>, mut found: Vec<NamedFile>) -> Result<Vec<NamedFile>, Status> {
-    if sort(&mut found).is_err() {
-        return Err(reporter.say(Ending::Memory));
-    }
-    match laid_over(reporter.rt.alloc(), found) {
+/// Lays files over one another. Refuses a file that cannot replace another one.
+fn laid(alloc: Global, found: Vec<NamedFile>) -> Result<Vec<NamedFile>, Stop> {
+    match laid_over(alloc, found) {
         Ok(laid) => Ok(laid),
-        Err(OverlayError::OutOfMemory) => Err(reporter.say(Ending::Memory)),
-        Err(OverlayError::Kinds(file)) => {
-            Err(reporter.failed(file.place.as_bytes(), &KINDS_DIFFER))
-        }
+        Err(OverlayError::OutOfMemory) => Err(Stop::Memory),
+        Err(OverlayError::Kinds(file)) => Err(failed(alloc, &file.place, KINDS_DIFFER)),
     }
+}
+
+/// Refuses directories whose owners and devices would be wrong, since fakeroot or pseudo is asked
+/// for and is not in this program.
+fn check_faked(rt: &HostRuntime, directories: &[&str]) -> Result<(), Stop> {
+    if is_unfaked(rt) {
+        let first = directories.first().copied().unwrap_or("");
+        return Err(refused(rt.alloc(), first, Reason::Faked));
+    }
+    Ok(())
 }
 
 /// Sets the owner of all files, if one is given.
@@ -65,9 +73,11 @@ fn change_by(alloc: Global, found: &[NamedFile], file: &NamedFile) -> Option<Cha
     Some(Change {
         line: file.inode.number,
         path: String::from_str(alloc, &file.place).ok()?,
-        mode: Some(file.mode),
-        uid: file.uid,
-        gid: file.gid,
+        attributes: Attributes {
+            mode: Some(file.mode),
+            uid: file.uid,
+            gid: file.gid,
+        },
     })
 }
 
@@ -98,13 +108,17 @@ fn set_rights(
     name: &str,
     found: &mut [NamedFile],
     changes: &[Change],
-) -> Result<(), Status> {
+) -> Result<(), Stop> {
     match set_all(reporter.rt.alloc(), found, changes) {
         Ok(()) => Ok(()),
-        Err(RightsError::OutOfMemory) => Err(reporter.say(Ending::Memory)),
+        Err(RightsError::OutOfMemory) => Err(Stop::Memory),
         Err(RightsError::Missing(line)) => {
-            let why = LineError::Other(BAD_TARGET, NO_SUCH_FILE);
-            Err(devices::refuse(reporter, name, b"", line, why))
+            let bad = BadLine {
+                line,
+                number: BAD_TARGET,
+                why: Why::Missing,
+            };
+            Err(refuse(reporter, name, b"", bad).into())
         }
     }
 }
@@ -116,15 +130,13 @@ fn with_table(
     name: &str,
     table: Listing,
     mut found: Vec<NamedFile>,
-) -> Result<Vec<NamedFile>, Status> {
+) -> Result<Vec<NamedFile>, Stop> {
     let Listing { files, changes } = table;
     set_rights(reporter, name, &mut found, &changes)?;
     for file in files {
-        if found.push(file).is_err() {
-            return Err(reporter.say(Ending::Memory));
-        }
+        found.push(file)?;
     }
-    laid(reporter, found)
+    laid(reporter.rt.alloc(), found)
 }
 
 /// Lays the files of the list in the file of this name over those that were found, and sets the
@@ -134,17 +146,11 @@ fn with_list(
     name: &str,
     listed: Listing,
     mut found: Vec<NamedFile>,
-) -> Result<Vec<NamedFile>, Status> {
-    let Ok(mut changes) = add_listed(reporter.rt.alloc(), &mut found, listed) else {
-        return Err(reporter.say(Ending::Memory));
-    };
-    if changes
-        .sort_by(|a: &Change, b: &Change| a.line.cmp(&b.line))
-        .is_err()
-    {
-        return Err(reporter.say(Ending::Memory));
-    }
-    let mut found = laid(reporter, found)?;
+) -> Result<Vec<NamedFile>, Stop> {
+    let alloc = reporter.rt.alloc();
+    let mut changes = add_listed(alloc, &mut found, listed)?;
+    changes.sort_by(|a: &Change, b: &Change| a.line.cmp(&b.line))?;
+    let mut found = laid(alloc, found)?;
     set_rights(reporter, name, &mut found, &changes)?;
     Ok(found)
 }
@@ -156,16 +162,16 @@ fn with_devices(
     scan: &ScanAll<'_>,
     mut found: Vec<NamedFile>,
     watched: &mut Vec<Watched>,
-) -> Result<Vec<NamedFile>, Status> {
+) -> Result<Vec<NamedFile>, Stop> {
     if let Some(name) = scan.device_table {
-        let text = text_of_file(reporter, name, watched)?;
-        let table = device_table::listed(reporter, name, &text, &found)?;
+        let text = text_of_file(reporter.rt, name, watched)?;
+        let table = in_table(reporter, name, &text, &found)?;
         found = with_table(reporter, name, table, found)?;
     }
     match scan.devices {
         Some(name) => {
-            let text = text_of_file(reporter, name, watched)?;
-            let listed = devices::listed(reporter, name, &text, &found)?;
+            let text = text_of_file(reporter.rt, name, watched)?;
+            let listed = in_list(reporter, name, &text, &found)?;
             with_list(reporter, name, listed, found)
         }
         None => Ok(found),
@@ -191,38 +197,31 @@ fn all_found(
     scan: &ScanAll<'_>,
     names: &[Option<&str>],
     notes_programs: bool,
-) -> Result<Found, Status> {
-    let patterns = Patterns::of(reporter, scan)?;
-    let written = files_written(reporter, names)?;
-    let found = all_below(reporter, scan, &patterns, &written)?;
-    for file in &written {
-        file.check(reporter, &found.files, &patterns)?;
+) -> Result<Found, Stop> {
+    let (rt, alloc) = (reporter.rt, reporter.rt.alloc());
+    let patterns = Patterns::of(alloc, scan)?;
+    let written = files_written(rt, names)?;
+    let found = all_below(rt, scan, &patterns, &written)?;
+    for part in &found.parts {
+        reporter.explain(part.place.as_bytes(), &part.why);
     }
-    let alloc = reporter.rt.alloc();
-    let (Ok(directories), Ok(mut states)) = (
-        directories_of(reporter.rt, &found.files),
-        States::of(alloc, &found.files, &found.states, notes_programs),
-    ) else {
-        return Err(reporter.say(Ending::Memory));
-    };
-    let mut found = laid(reporter, found.files)?;
+    for file in &written {
+        file.check(rt, &found.files, &patterns)?;
+    }
+    let directories = directories_of(rt, &found.files)?;
+    let mut states = States::of(alloc, &found.files, &found.states, notes_programs)?;
+    let mut found = laid(alloc, found.files)?;
     own_all(&mut found, scan.owner);
     let (patterns, align) = (&patterns, scan.align);
-    align_all(
-        reporter,
-        AlignRules { patterns, align },
-        &mut found,
-        &mut states,
-    )?;
-    let mut watched = Vec::new(reporter.rt.alloc());
+    let rules = AlignRules { patterns, align };
+    align_all(rt, rules, &mut found, &mut states)?;
+    let mut watched = Vec::new(alloc);
     let mut files = with_devices(reporter, scan, found, &mut watched)?;
     if scan.dedupe {
-        for file in share_equal(reporter, &mut files)? {
-            if watched.push(file).is_err() {
-                return Err(reporter.say(Ending::Memory));
-            }
+        for file in share_equal(rt, &mut files)? {
+            watched.push(file)?;
         }
-        share_alignments(reporter, &mut files)?;
+        share_alignments(alloc, &mut files)?;
     }
     Ok(Found {
         files,
@@ -233,13 +232,17 @@ fn all_found(
 }
 
 /// Which files a manifest is made of: those that were found or read, and the files of devices.
-fn inputs_of(rt: &HostRuntime, scan: &ScanAll<'_>, found: &Found) -> io::Result<Vec<Identity>> {
+fn inputs_of(
+    rt: &HostRuntime,
+    scan: &ScanAll<'_>,
+    found: &Found,
+) -> Result<Vec<Identity>, AllocError> {
     let mut all = Vec::new(rt.alloc());
     for name in [scan.devices, scan.device_table] {
         if let Some(name) = name
-            && let Ok(there) = fs::metadata(rt, name)
+            && let Some(there) = identity_of(rt, name)
         {
-            all.push(Identity::of(&there))?;
+            all.push(there)?;
         }
     }
     for file in &found.watched {
@@ -254,120 +257,95 @@ fn inputs_of(rt: &HostRuntime, scan: &ScanAll<'_>, found: &Found) -> io::Result<
 /// Opens the target for the manifest. It is neither a file that the manifest is made of, nor a file
 /// that is standard output or standard error.
 fn target_of(
-    reporter: &Reporter<'_>,
+    rt: &HostRuntime,
     name: &str,
     scan: &ScanAll<'_>,
     found: &Found,
-) -> Result<Target, Status> {
-    let rt = reporter.rt;
-    let mut inputs = match inputs_of(rt, scan, found) {
-        Ok(inputs) => inputs,
-        Err(e) => return Err(reporter.refused(name.as_bytes(), &e)),
+) -> Result<Target, Stop> {
+    let read = inputs_of(rt, scan, found)?;
+    let outputs = Outputs {
+        read: &read,
+        other: None,
+        shares_streams: true,
     };
-    if let Ok(there) = fs::metadata(rt, name) {
-        if inputs.contains(&Identity::of(&there)) {
-            return Err(reporter.failed(name.as_bytes(), &OWN_FILE));
-        }
-        if there.is_file() && own_output::is_own(rt, &there) {
-            return Err(reporter.failed(name.as_bytes(), &OWN_STREAM));
-        }
-        if there.is_file() && own_output::is_own_error(rt, &there) {
-            return Err(reporter.failed(name.as_bytes(), &OWN_ERROR));
-        }
-    }
-    for stream in [own_output::identity(rt), own_output::error_identity(rt)] {
-        if let Some(stream) = stream
-            && inputs.push(stream).is_err()
-        {
-            return Err(reporter.say(Ending::Memory));
-        }
-    }
-    match Target::open(rt, name, inputs) {
+    match outputs.open(rt, name) {
         Ok(target) => Ok(target),
-        Err(e) => Err(reporter.refused(name.as_bytes(), &e)),
+        Err(why) => Err(unopened(rt.alloc(), name, why, [OWN_FILE, OWN_STREAM])),
     }
 }
 
-/// Writes a manifest to its target. Reports a failure.
+/// Writes a manifest to its target.
 fn write_to(
-    reporter: &Reporter<'_>,
+    rt: &HostRuntime,
     target: &mut Target,
     name: &str,
     volume: &[u8],
     lines: &[Entry<'_>],
-) -> Result<(), Status> {
+) -> Result<(), Stop> {
     let Some(mut writer) = target.take_writer() else {
-        return Err(reporter.failed(name.as_bytes(), &MANIFEST_NOT_TAKEN));
+        return Err(failed(rt.alloc(), name, MANIFEST_NOT_TAKEN));
     };
     if put_found(&mut writer, volume, lines).is_ok() {
         target.put_back(writer);
         return Ok(());
     }
-    Err(match writer.error() {
-        Some(e) => reporter.refused(name.as_bytes(), &e),
-        None => reporter.failed(name.as_bytes(), &MANIFEST_NOT_TAKEN),
-    })
+    match writer.error() {
+        Some(e) => Err(refused(rt.alloc(), name, e)),
+        None => Err(failed(rt.alloc(), name, MANIFEST_NOT_TAKEN)),
+    }
 }
 
 /// Writes a manifest into a file, which then has all of it, or stays as it was.
 fn write_file(
-    reporter: &Reporter<'_>,
+    rt: &HostRuntime,
     name: &str,
     volume: &[u8],
     lines: &[Entry<'_>],
     mut target: Target,
-) -> Result<(), Status> {
-    if let Err(status) = write_to(reporter, &mut target, name, volume, lines) {
-        target.abandon(reporter.rt);
-        return Err(status);
+) -> Result<(), Stop> {
+    if let Err(stop) = write_to(rt, &mut target, name, volume, lines) {
+        target.abandon(rt);
+        return Err(stop);
     }
-    keep_target(reporter, name, target)
+    keep_target(rt, name, target)
 }
 
 /// Prints a manifest on standard output.
-fn print(reporter: &Reporter<'_>, volume: &[u8], lines: &[Entry<'_>]) -> Result<(), Status> {
-    let Ok(out) = BufWriter::new(reporter.rt.alloc(), Again::new(io::writer(reporter.rt))) else {
-        return Err(reporter.say(Ending::Memory));
-    };
-    match put_found(&mut Plain::new(out), volume, lines) {
+fn print(rt: &HostRuntime, volume: &[u8], lines: &[Entry<'_>]) -> Result<(), Stop> {
+    match put_found(&mut output(rt)?, volume, lines) {
         Ok(()) => Ok(()),
-        Err(Failed) => Err(reporter.say(Ending::WriteFault)),
+        Err(Failed) => Err(Stop::unwritten()),
     }
 }
 
 /// The volume's name.
-fn volume_of<'a>(reporter: &Reporter<'_>, scan: &ScanAll<'a>) -> Result<&'a [u8], Status> {
-    let volume = scan.volume.unwrap_or("").as_bytes();
+fn volume_of<'a>(alloc: Global, scan: &ScanAll<'a>) -> Result<&'a [u8], Stop> {
+    let volume = scan.volume.unwrap_or("");
     if volume.len() > MOST_VOLUME {
-        let status = reporter.say(Ending::Usage);
-        reporter.explain(volume, &LONG_NAME);
-        return Err(status);
+        return Err(usage(alloc, volume, LONG_NAME));
     }
-    Ok(volume)
+    Ok(volume.as_bytes())
 }
 
-/// The lines of the files that were found, and what they do not keep. A strict scan refuses that.
+/// The lines of the files that were found, and what they do not keep. A strict scan refuses that,
+/// in these words and more.
 fn lines_of<'f>(
-    reporter: &Reporter<'_>,
     scan: &ScanAll<'_>,
     found: &'f [NamedFile],
-) -> Result<(Vec<Entry<'f>>, Unfit), Status> {
-    let Ok(lines) = lines(reporter.rt.alloc(), scan.format, found) else {
-        return Err(reporter.say(Ending::Memory));
-    };
-    let Ok(unfit) = Unfit::of(reporter.rt.alloc(), &lines, found) else {
-        return Err(reporter.say(Ending::Memory));
-    };
+    words: Words,
+) -> Result<(Vec<Entry<'f>>, Unfit), Stop> {
+    let alloc = words.alloc();
+    let lines = lines(alloc, scan.format, found)?;
+    let unfit = Unfit::of(alloc, &lines, found)?;
     if scan.strict && !unfit.is_none() {
-        return Err(unfit.refuse(reporter, scan));
+        return Err(unfit.refusal(scan, words));
     }
     Ok((lines, unfit))
 }
 
 /// Whether a regular file has exactly the bytes of a manifest with these lines. If it cannot be
 /// read, it is written anew.
-fn has_text(reporter: &Reporter<'_>, name: &str, volume: &[u8], lines: &[Entry<'_>]) -> bool {
-    let rt = reporter.rt;
+fn has_text(rt: &HostRuntime, name: &str, volume: &[u8], lines: &[Entry<'_>]) -> bool {
     let mut text = Plain::new(Vec::new(rt.alloc()));
     if put_found(&mut text, volume, lines).is_err() {
         return false;
@@ -402,23 +380,19 @@ fn names_of(
 /// Opens the file of a rule and writes it there, if one is asked for. It gets its name after the
 /// manifest has got its own.
 fn rule_of(
-    reporter: &Reporter<'_>,
+    rt: &HostRuntime,
     scan: &ScanAll<'_>,
     out: &str,
     found: &Found,
     image: &Target,
-) -> Result<Option<Target>, Status> {
-    let (Some(name), rt) = (scan.depfile, reporter.rt) else {
+) -> Result<Option<Target>, Stop> {
+    let Some(name) = scan.depfile else {
         return Ok(None);
     };
-    let Ok(names) = names_of(rt, scan, &found.files) else {
-        return Err(reporter.say(Ending::Memory));
-    };
+    let names = names_of(rt, scan, &found.files)?;
     let mut sources = Vec::new(rt.alloc());
     for name in &names {
-        if sources.push(name.as_str()).is_err() {
-            return Err(reporter.say(Ending::Memory));
-        }
+        sources.push(name.as_str())?;
     }
     let rule = Rule {
         out,
@@ -426,87 +400,88 @@ fn rule_of(
         sources: &sources,
         directories: &found.directories,
     };
-    depfile::check(reporter, name, rule)?;
-    let target = target_of(reporter, name, scan, found)?;
-    Ok(Some(depfile::written(reporter, name, rule, target, image)?))
+    depfile::check(rt, name, rule)?;
+    let target = target_of(rt, name, scan, found)?;
+    Ok(Some(depfile::written(rt, name, rule, target, image)?))
 }
 
 /// Gives a target that was written its name.
-fn keep_target(reporter: &Reporter<'_>, name: &str, target: Target) -> Result<(), Status> {
-    match target.keep(reporter.rt) {
+fn keep_target(rt: &HostRuntime, name: &str, target: Target) -> Result<(), Stop> {
+    match target.keep(rt) {
         Ok(()) => Ok(()),
-        Err(KeepError::Refused(e)) => Err(reporter.refused(name.as_bytes(), &e)),
-        Err(KeepError::Changed) => Err(reporter.changed(name.as_bytes(), &PART_REPLACED)),
+        Err(KeepError::Refused(e)) => Err(refused(rt.alloc(), name, e)),
+        Err(KeepError::Changed) => Err(changed(rt.alloc(), name, PART_REPLACED)),
     }
 }
 
 /// Writes a manifest into a file. A file that has it already stays untouched, so that make builds
 /// nothing again.
 fn put_manifest(
-    reporter: &Reporter<'_>,
+    rt: &HostRuntime,
     name: &str,
     volume: &[u8],
     lines: &[Entry<'_>],
     target: Target,
-) -> Result<(), Status> {
-    if has_text(reporter, name, volume, lines) {
-        target.abandon(reporter.rt);
+) -> Result<(), Stop> {
+    if has_text(rt, name, volume, lines) {
+        target.abandon(rt);
         return Ok(());
     }
-    write_file(reporter, name, volume, lines, target)
+    write_file(rt, name, volume, lines, target)
 }
 
 /// Writes the manifest into the file that is asked for, if one is, and then the rule.
 fn keep(
-    reporter: &Reporter<'_>,
+    rt: &HostRuntime,
     scan: &ScanAll<'_>,
     volume: &[u8],
     found: &Found,
     lines: &[Entry<'_>],
-) -> Result<(), Status> {
+) -> Result<(), Stop> {
     let Some(name) = scan.output else {
         return Ok(());
     };
-    let target = target_of(reporter, name, scan, found)?;
-    let rule = match rule_of(reporter, scan, name, found, &target) {
+    let target = target_of(rt, name, scan, found)?;
+    let rule = match rule_of(rt, scan, name, found, &target) {
         Ok(rule) => rule,
-        Err(status) => {
-            target.abandon(reporter.rt);
-            return Err(status);
+        Err(stop) => {
+            target.abandon(rt);
+            return Err(stop);
         }
     };
-    if let Err(status) = put_manifest(reporter, name, volume, lines, target) {
+    if let Err(stop) = put_manifest(rt, name, volume, lines, target) {
         if let Some(rule) = rule {
-            rule.abandon(reporter.rt);
+            rule.abandon(rt);
         }
-        return Err(status);
+        return Err(stop);
     }
     match (rule, scan.depfile) {
-        (Some(rule), Some(name)) => keep_target(reporter, name, rule),
+        (Some(rule), Some(name)) => keep_target(rt, name, rule),
         _ => Ok(()),
     }
 }
 
-/// Scans, and writes the manifest. Nothing is written if a file cannot be read.
-fn scan(reporter: &Reporter<'_>, scan: &ScanAll<'_>) -> Result<(), Status> {
-    check_faked(reporter, &scan.directories)?;
-    let volume = volume_of(reporter, scan)?;
+/// Prints a manifest of directories as they are, or writes it into a file. Explains what it does
+/// not keep. Nothing is written if a file cannot be read.
+///
+/// # Errors
+///
+/// Any stop; `Told` for what a strict scan refuses.
+#[inline(never)]
+pub fn run(reporter: &Reporter<'_>, scan: &ScanAll<'_>) -> Result<Status, Stop> {
+    let rt = reporter.rt;
+    check_faked(rt, &scan.directories)?;
+    let volume = volume_of(rt.alloc(), scan)?;
     let found = all_found(reporter, scan, &[scan.output, scan.depfile], false)?;
-    let (lines, unfit) = lines_of(reporter, scan, &found.files)?;
+    let (lines, unfit) = lines_of(scan, &found.files, reporter.words())?;
     match scan.output {
-        Some(_) => keep(reporter, scan, volume, &found, &lines)?,
-        None => print(reporter, volume, &lines)?,
+        Some(_) => keep(rt, scan, volume, &found, &lines)?,
+        None => print(rt, volume, &lines)?,
     }
-    unfit.explain(reporter, scan);
-    Ok(())
-}
-
-/// Prints a manifest of directories as they are, or writes it into a file. Returns the status.
-pub fn run(reporter: &Reporter<'_>, asked: &ScanAll<'_>) -> Status {
-    match scan(reporter, asked) {
-        Ok(()) => Status::Done,
-        Err(status) => status,
-    }
+    let mut words = reporter.words();
+    unfit.explain(&mut words, scan);
+    reporter.tell(&words);
+    Ok(Status::Done)
 }
 
 /// The text of the manifest of directories, all directories that were found, the files that were
@@ -522,8 +497,8 @@ pub struct ScannedText {
 /// A directory's name as make reads it. A dot by itself is no name for make, so it is spelled as
 /// the path of the current directory.
 fn spelled(rt: &HostRuntime, name: &str) -> Result<String, AllocError> {
-    match env::current_dir(rt) {
-        Ok(whole) if name == "." => Ok(whole.into_string()),
+    match current_directory(rt) {
+        Ok(whole) if name == "." => Ok(whole),
         _ => String::from_str(rt.alloc(), name),
     }
 }
@@ -540,34 +515,42 @@ fn directories_of(rt: &HostRuntime, found: &[NamedFile]) -> Result<Vec<String>, 
 }
 
 /// The text of the manifest of what was found, which is written into a file as well if one is asked
-/// for.
+/// for, and what it does not keep. A strict scan refuses that in these words and more.
 fn text_of(
-    reporter: &Reporter<'_>,
+    rt: &HostRuntime,
     scan: &ScanAll<'_>,
     volume: &[u8],
     found: &Found,
-) -> Result<Vec<u8>, Status> {
-    let (lines, unfit) = lines_of(reporter, scan, &found.files)?;
-    let mut text = Plain::new(Vec::new(reporter.rt.alloc()));
+    words: Words,
+) -> Result<(Vec<u8>, Unfit), Stop> {
+    let (lines, unfit) = lines_of(scan, &found.files, words)?;
+    let mut text = Plain::new(Vec::new(rt.alloc()));
     if put_found(&mut text, volume, &lines).is_err() {
-        return Err(reporter.say(Ending::Memory));
+        return Err(Stop::Memory);
     }
-    keep(reporter, scan, volume, found, &lines)?;
-    unfit.explain(reporter, scan);
-    Ok(text.into_inner())
+    keep(rt, scan, volume, found, &lines)?;
+    Ok((text.into_inner(), unfit))
 }
 
 /// Returns the text of the manifest of directories, and writes it into a file as well if one is
-/// asked for. Files of these names are written later.
+/// asked for. Files of these names are written later. Explains what the manifest does not keep.
+///
+/// # Errors
+///
+/// Those of `run`.
 pub fn scanned_text(
     reporter: &Reporter<'_>,
     scan: &ScanAll<'_>,
     names: &[Option<&str>],
-) -> Result<ScannedText, Status> {
-    check_faked(reporter, &scan.directories)?;
-    let volume = volume_of(reporter, scan)?;
+) -> Result<ScannedText, Stop> {
+    let rt = reporter.rt;
+    check_faked(rt, &scan.directories)?;
+    let volume = volume_of(rt.alloc(), scan)?;
     let found = all_found(reporter, scan, names, reporter.is_explained())?;
-    let text = text_of(reporter, scan, volume, &found)?;
+    let (text, unfit) = text_of(rt, scan, volume, &found, reporter.words())?;
+    let mut words = reporter.words();
+    unfit.explain(&mut words, scan);
+    reporter.tell(&words);
     let Found {
         files: _,
         directories,

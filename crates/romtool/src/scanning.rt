@@ -1,15 +1,16 @@
 //! Prints the manifest of a directory.
 use crate::directories;
-use crate::lister::{Survey, SystemLister, opened, say_unwalked};
 use crate::output::output;
 use crate::reporter::Reporter;
+use crate::stop::Stop;
 use build_commands::{PrintError, Unscanned, scan_directory};
 use command_line::Scan;
-use rom_commands::{Ending, Status};
+use rom_commands::Status;
 use std::alloc::{AllocError, Global};
 use std::fs::{FileType, Metadata};
-use std::io;
 use std::os::unix::fs::{FileTypeExt, MetadataExt};
+use system_files::lister::{Survey, SystemLister, opened};
+use system_files::{FileError, Reason, Refusal, refused};
 
 /// The bits of a mode by which someone may execute a file.
 const EXECUTABLE: u32 = 0o111;
@@ -88,7 +89,7 @@ impl Survey for PassedOver {
         _rt: &HostRuntime,
         _place: &str,
         metadata: &Metadata,
-    ) -> io::Result<Option<bool>> {
+    ) -> Result<Option<bool>, Refusal> {
         if metadata.is_file() && metadata.mode() & EXECUTABLE != 0 {
             self.programs = self.programs.saturating_add(1);
         }
@@ -99,52 +100,47 @@ impl Survey for PassedOver {
         Ok(None)
     }
 
-    fn note(
-        &mut self,
-        reporter: &Reporter<'_>,
-        name: &str,
-        why: &'static str,
-    ) -> Result<(), Status> {
-        Err(reporter.failed(name.as_bytes(), &why))
+    fn note(&mut self, alloc: Global, name: &str, why: Reason) -> Result<(), FileError> {
+        Err(refused(alloc, name, why))
     }
 }
 
-/// Prints a manifest of the regular files and the directories below a directory. Reports a file
-/// that cannot be read, and a directory that changed during the scan. A name that is no UTF-8 is
-/// reported for its directory.
-fn print_below(
-    reporter: &Reporter<'_>,
-    scan: Scan<'_>,
-    passed: &mut PassedOver,
-) -> Result<(), Status> {
-    let (alloc, top) = (reporter.rt.alloc(), scan.directory);
-    let (attributes, directory) = opened(reporter, top)?;
-    let mut out = output(reporter)?;
+/// Prints a manifest of the regular files and the directories below a directory. A name that is no
+/// UTF-8 is refused for its directory.
+fn print_below(rt: &HostRuntime, scan: Scan<'_>, passed: &mut PassedOver) -> Result<(), Stop> {
+    let (alloc, top) = (rt.alloc(), scan.directory);
+    let (attributes, directory) = opened(rt, top)?;
+    let mut out = output(rt)?;
     let mut lister = SystemLister {
-        reporter: *reporter,
+        rt,
         top,
         device: scan.one_file_system.then_some(attributes.dev()),
         survey: passed,
     };
-    let recheck = &mut directories::Again { reporter, top };
+    let recheck = &mut directories::Again {
+        rt,
+        top,
+        stayed: None,
+    };
     match scan_directory(alloc, &mut lister, directory, recheck, &mut out) {
         Ok(()) => Ok(()),
-        Err(Unscanned::NotWalked(e)) => Err(say_unwalked(reporter, e)),
-        Err(Unscanned::Changed(status)) => Err(status),
-        Err(Unscanned::NotPrinted(PrintError::OutOfMemory)) => Err(reporter.say(Ending::Memory)),
-        Err(Unscanned::NotPrinted(PrintError::Failed)) => Err(reporter.say(Ending::WriteFault)),
+        Err(Unscanned::NotWalked(e)) => Err(FileError::from(e).into()),
+        Err(Unscanned::Changed(e)) => Err(e.into()),
+        Err(Unscanned::NotPrinted(PrintError::OutOfMemory)) => Err(Stop::Memory),
+        Err(Unscanned::NotPrinted(PrintError::Failed)) => Err(Stop::unwritten()),
     }
 }
 
-/// Prints a manifest of the regular files and the directories below a directory, and returns the
-/// status. Nothing is printed if one of the directories cannot be listed.
-pub fn run(reporter: &Reporter<'_>, scan: Scan<'_>) -> Status {
+/// Prints a manifest of the regular files and the directories below a directory. Nothing is printed
+/// if one of the directories cannot be listed.
+///
+/// # Errors
+///
+/// `Refused` for a file that cannot be read, and for a directory that changed, or has a name that
+/// is no UTF-8; `Memory`, `Unwritten`.
+pub fn run(reporter: &Reporter<'_>, scan: Scan<'_>) -> Result<Status, Stop> {
     let mut passed = PassedOver::default();
-    match print_below(reporter, scan, &mut passed) {
-        Ok(()) => {
-            passed.explain(reporter, scan.directory);
-            Status::Done
-        }
-        Err(status) => status,
-    }
+    print_below(reporter.rt, scan, &mut passed)?;
+    passed.explain(reporter, scan.directory);
+    Ok(Status::Done)
 }

@@ -1,33 +1,35 @@
 //! The commands that answer lines of standard input from images.
 use crate::inspect::loaded;
-use crate::output::{errors, lines};
-use crate::reading::{self, Unread};
+use crate::limit::limit_of;
+use crate::output::errors;
 use crate::replies::Replies;
 use crate::reporter::Reporter;
+use crate::stop::{FrontOf, Line, Stop, unread};
 use image_check::check;
 use program_streams::Ahead;
-use rom_commands::{Asked, Ending, Status, refuse_in, serve_on, serve_several_on};
+use rom_commands::{Asked, Ending, Status, serve_on, serve_several_on};
 use rom_fields::{ByteRead, Plain};
 use rom_tree::Limits;
 use sentences::reasons::{SPACE_WAITS, WAITS};
-use std::io::{self, IsTerminal};
-use system_files::{Found, Front};
-
-/// Whether requests are typed, and words are asked for.
-fn is_typed(reporter: &Reporter<'_>) -> bool {
-    reporter.is_explained() && reporter.rt.stdin().is_terminal()
-}
+use std::alloc::Global;
+use std::io;
+use system_files::{Found, reading};
 
 /// Whether a file is an image without a fault.
-fn is_valid(reporter: &Reporter<'_>, bytes: &[u8]) -> bool {
-    check(reporter.rt.alloc(), bytes, Limits::usual()).is_ok()
+fn is_valid(alloc: Global, bytes: &[u8]) -> bool {
+    check(alloc, bytes, Limits::usual()).is_ok()
 }
 
 /// Serves the image in a file.
-pub fn serve(reporter: &Reporter<'_>, name: &str) -> Result<Status, Status> {
+///
+/// # Errors
+///
+/// Those of `inspect::loaded`.
+#[inline(never)]
+pub fn serve(reporter: &Reporter<'_>, name: &str) -> Result<Status, Stop> {
     let rt = reporter.rt;
-    let bytes = loaded(reporter, name, Asked::Report)?.bytes;
-    if is_typed(reporter) && is_valid(reporter, &bytes) {
+    let bytes = loaded(rt, reporter.most, name, Asked::Report)?.bytes;
+    if reporter.is_typed() && is_valid(rt.alloc(), &bytes) {
         reporter.explain(b"stdin", &WAITS);
     }
     let mut err = errors(rt);
@@ -42,56 +44,36 @@ pub fn serve(reporter: &Reporter<'_>, name: &str) -> Result<Status, Status> {
     Ok(ending.status())
 }
 
-/// Why a file cannot be served together with others.
-#[derive(Drop)]
-enum Missing {
-    /// It cannot be read.
-    Unread(Unread),
-    /// It is refused by its first bytes.
-    Refused(Front),
-}
-
 /// Reads a file after those that were read.
-fn read_one(reporter: &Reporter<'_>, name: &str, files: &mut Vec<Vec<u8>>) -> Result<(), Missing> {
-    let bytes = match reading::image(reporter.rt, reporter.most, name) {
-        Ok(Found::Image(image)) => image.bytes,
-        Ok(Found::Refused(front)) => return Err(Missing::Refused(front)),
-        Err(e) => return Err(Missing::Unread(e)),
-    };
-    match files.push(bytes) {
-        Ok(()) => Ok(()),
-        Err(_) => Err(Missing::Unread(Unread::Refused(io::Error::from(
-            io::ErrorKind::OutOfMemory,
-        )))),
-    }
-}
-
-/// Reads files after those that were read, in their order, up to the first that fails. Of this
-/// file, returns the name and the reason.
-fn read_all<'a>(
-    reporter: &Reporter<'_>,
-    names: &[&'a str],
+fn read_one(
+    rt: &HostRuntime,
+    most: Option<u64>,
+    name: &str,
     files: &mut Vec<Vec<u8>>,
-) -> Result<(), (&'a str, Missing)> {
-    for name in names {
-        if let Err(missing) = read_one(reporter, name, files) {
-            return Err((*name, missing));
+) -> Result<(), Stop> {
+    match reading::image(rt, limit_of(rt, most), name) {
+        Ok(Found::Image(image)) => files.push(image.bytes)?,
+        Ok(Found::Refused(front)) => {
+            let number = u32::try_from(files.len()).unwrap_or(u32::MAX);
+            let name = String::from_str(rt.alloc(), name)?;
+            return Err(Stop::Front(name, front, FrontOf::Several(number)));
         }
+        Err(e) => return Err(unread(rt.alloc(), name, e)),
     }
     Ok(())
 }
 
-/// Reports that the file of this number cannot be served, and why.
-fn say_missing(reporter: &Reporter<'_>, name: &str, image: u32, missing: &Missing) -> Status {
-    let front = match missing {
-        Missing::Unread(e) => return reporter.unread(name.as_bytes(), e),
-        Missing::Refused(front) => front,
-    };
-    let rt = reporter.rt;
-    let (mut out, mut err) = (lines(rt), errors(rt));
-    let ending = refuse_in(front.fault, image, &mut out, &mut err);
-    reporter.finish_image(err, ending, name.as_bytes(), &front.bytes);
-    ending.status()
+/// Reads files after those that were read, in their order, up to the first that fails.
+fn read_all(
+    rt: &HostRuntime,
+    most: Option<u64>,
+    names: &[&str],
+    files: &mut Vec<Vec<u8>>,
+) -> Result<(), Stop> {
+    for name in names {
+        read_one(rt, most, name, files)?;
+    }
+    Ok(())
 }
 
 /// The name and the bytes of the file whose fault an ending has, if it has one.
@@ -119,44 +101,49 @@ fn serve_files<R: ByteRead>(
     names: &[&str],
     files: &[Vec<u8>],
     lines: &mut R,
-) -> Status {
+) -> Result<Status, Stop> {
     let rt = reporter.rt;
     if files.is_empty() || files.len() > 8 {
-        return reporter.say(Ending::Usage);
+        return Err(Stop::Told(Line::Of(Ending::Usage), reporter.words()));
     }
     let mut err = errors(rt);
     let out = &mut Plain::new(Replies::new(*reporter, io::writer(rt)));
     let ending = serve_several_on(rt.alloc(), files, lines, out, &mut err);
     let (name, bytes) = refused_file(names, files, ending);
     reporter.finish_image(err, ending, name, bytes);
-    ending.status()
+    Ok(ending.status())
 }
 
 /// Serves the images in one to eight files. If one cannot be read, a fault of an image before it is
 /// reported first. To find it, the images before it are served with no lines.
-pub fn space(reporter: &Reporter<'_>, names: &[&str]) -> Status {
-    let rt = reporter.rt;
-    let mut files = Vec::new(rt.alloc());
-    match read_all(reporter, names, &mut files) {
+///
+/// # Errors
+///
+/// `Front`, `Unread` or `Changed` for the first file that is no image; `Told` for the number of
+/// images; `Memory`.
+#[inline(never)]
+pub fn space(reporter: &Reporter<'_>, names: &[&str]) -> Result<Status, Stop> {
+    let (rt, alloc) = (reporter.rt, reporter.rt.alloc());
+    let mut files = Vec::new(alloc);
+    match read_all(rt, reporter.most, names, &mut files) {
         Ok(()) => {
-            if is_typed(reporter) && files.iter().all(|file| is_valid(reporter, file)) {
+            if reporter.is_typed() && files.iter().all(|file| is_valid(alloc, file)) {
                 reporter.explain(b"stdin", &SPACE_WAITS);
             }
             let lines = &mut Plain::new(Ahead::new(rt.reader()));
             serve_files(reporter, names, &files, lines)
         }
-        Err((name, missing)) => {
-            let number = u32::try_from(files.len()).unwrap_or(u32::MAX);
+        Err(stop) => {
             let no_lines: &[u8] = &[];
             let status = if files.is_empty() {
                 Status::Done
             } else {
-                serve_files(reporter, names, &files, &mut Plain::new(no_lines))
+                serve_files(reporter, names, &files, &mut Plain::new(no_lines))?
             };
             if status == Status::Done {
-                say_missing(reporter, name, number, &missing)
+                Err(stop)
             } else {
-                status
+                Ok(status)
             }
         }
     }

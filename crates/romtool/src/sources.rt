@@ -3,100 +3,81 @@ ghost use Rattle.std.specs.Prelude.{◌≡◌, length, map, IfOk};
 ghost use Rattle.build_commands.specs.Sources.{joined};
 
 use crate::origin::Origin;
-use crate::reporter::Reporter;
+use crate::stop::{Line, Stop};
+use crate::words::Words;
 use build_commands::joined_name;
 use manifest::Name;
-use rom_commands::{Ending, Status};
-use sentences::reasons::NO_TEXT;
-use std::alloc::AllocError;
-use std::{io, str};
-use system_files::{Stamp, stamp_of, stamp_unlinked};
+use rom_commands::Ending;
+use std::alloc::{AllocError, AllocFailed, Global};
+use std::str;
+use system_files::{Reason, Refusal, Stamp, stamp_of, stamp_unlinked};
 
-/// The most missing sources that are reported one by one.
+/// The most missing sources that are explained one by one.
 const MOST_SAID: u64 = 20;
 
-/// Why a source cannot be read.
+/// Why sources cannot be used.
 #[derive(Drop)]
-enum Missing {
-    /// Its name is no UTF-8, so that it cannot be opened.
-    NoText,
-    /// The system refused it.
-    Refused(io::Error),
+pub enum Unusable {
+    OutOfMemory,
+    /// The source of this number, from 0 on, cannot be read.
+    Missing(usize, Refusal),
+}
+
+impl<T: Drop> From<AllocFailed<T>> for Unusable {
+    fn from(_: AllocFailed<T>) -> Unusable {
+        Unusable::OutOfMemory
+    }
+}
+
+impl From<AllocError> for Unusable {
+    fn from(_: AllocError) -> Unusable {
+        Unusable::OutOfMemory
+    }
 }
 
 /// Returns the names of the sources in a directory.
 pub fn joined_names(
-    reporter: &Reporter<'_>,
+    alloc: Global,
     directory: &str,
     sources: &[Name],
-) -> Result<Vec<Vec<u8>>, Status>
+) -> Result<Vec<Vec<u8>>, AllocError>
     ensures { IfOk result (λ names. map (λ n. n.items) names.items
         ≡ map (joined directory.now) sources.now) }
 {
-    let mut names = Vec::new(reporter.rt.alloc());
+    let mut names = Vec::new(alloc);
     for source in sources {
-        let Ok(name) = joined_name(reporter.rt.alloc(), directory.as_bytes(), source.as_bytes())
-        else {
-            return Err(reporter.say(Ending::Memory));
-        };
-        if names.push(name).is_err() {
-            return Err(reporter.say(Ending::Memory));
-        }
+        names.push(joined_name(alloc, directory.as_bytes(), source.as_bytes())?)?;
     }
     Ok(names)
 }
 
 /// The state of the source of this name.
-fn stamp_by(reporter: &Reporter<'_>, origin: Origin<'_>, name: &str) -> io::Result<Stamp> {
+fn stamp_by(rt: &HostRuntime, origin: Origin<'_>, name: &str) -> Result<Stamp, Refusal> {
     if origin.no_follow {
-        stamp_unlinked(reporter.rt, name)
+        stamp_unlinked(rt, name)
     } else {
-        stamp_of(reporter.rt, name)
+        stamp_of(rt, name)
     }
 }
 
 /// Why the source of this number cannot be read, if it cannot.
-fn why_missing(reporter: &Reporter<'_>, origin: Origin<'_>, number: usize) -> Option<Missing> {
+fn why_missing(rt: &HostRuntime, origin: Origin<'_>, number: usize) -> Option<Refusal> {
     let Ok(name) = str::from_utf8(origin.source(number)) else {
-        return Some(Missing::NoText);
+        return Some(Refusal::Reason(Reason::NoText));
     };
-    match stamp_by(reporter, origin, name) {
-        Ok(_) => None,
-        Err(e) => Some(Missing::Refused(e)),
-    }
+    stamp_by(rt, origin, name).err()
 }
 
-/// Explains why a source cannot be read.
-fn explain(reporter: &Reporter<'_>, origin: Origin<'_>, number: usize, why: &Missing) {
-    match why {
-        Missing::NoText => reporter.explain_source(origin, number, &NO_TEXT),
-        Missing::Refused(e) => reporter.explain_error(origin, number, e),
-    }
-}
-
-/// Reports that a source cannot be read, and why.
-fn refused(reporter: &Reporter<'_>, origin: Origin<'_>, number: usize, why: &Missing) -> Status {
-    match why {
-        Missing::NoText => {
-            let status = reporter.say(Ending::File(origin.source(number)));
-            explain(reporter, origin, number, why);
-            status
-        }
-        Missing::Refused(e) => reporter.refused_source(origin, number, e),
-    }
-}
-
-/// Explains which later sources cannot be read either: some of them one by one, and then how many
-/// more.
-fn explain_others(reporter: &Reporter<'_>, origin: Origin<'_>, first: usize) {
-    if !reporter.is_explained() {
+/// Adds which later sources cannot be read either: some of them one by one, and then how many more.
+fn explain_others(rt: &HostRuntime, words: &mut Words, origin: Origin<'_>, first: usize) {
+    if !words.are_asked() {
         return;
     }
     let (mut said, mut more) = (1u64, 0u64);
     for number in first.saturating_add(1)..origin.count() {
-        if let Some(why) = why_missing(reporter, origin, number) {
+        if let Some(why) = why_missing(rt, origin, number) {
             if said < MOST_SAID {
-                explain(reporter, origin, number, &why);
+                words.add_refused_source(origin, number, why);
                 said = said.saturating_add(1);
             } else {
                 more = more.saturating_add(1);
@@ -104,117 +85,126 @@ fn explain_others(reporter: &Reporter<'_>, origin: Origin<'_>, first: usize) {
         }
     }
     if more > 0
-        && let Ok(what) = format!(in reporter.rt.alloc(); "{more} more sources cannot be read")
+        && let Ok(what) = format!(in rt.alloc(); "{more} more sources cannot be read")
     {
-        reporter.explain(origin.name.as_bytes(), &what);
+        words.add(origin.name.as_bytes(), &what);
     }
 }
 
-/// Reports the first source that cannot be read by a line of the protocol, and explains all of them
-/// in words. Those before this one can be read.
-fn say_missing(
-    reporter: &Reporter<'_>,
+/// Stops since the source of this number cannot be read, and explains why, and which later ones
+/// cannot be read either. Those before it can be read.
+fn missing(
+    rt: &HostRuntime,
     origin: Origin<'_>,
     number: usize,
-    why: &Missing,
-) -> Status {
-    let status = refused(reporter, origin, number, why);
-    explain_others(reporter, origin, number);
-    status
+    why: Refusal,
+    mut words: Words,
+) -> Stop {
+    let line = if why.is_memory() {
+        Line::Of(Ending::Memory)
+    } else {
+        words.add_refused_source(origin, number, why);
+        match origin.source(number).to_vec(rt.alloc()) {
+            Ok(name) => Line::File(name),
+            Err(_) => return Stop::Memory,
+        }
+    };
+    explain_others(rt, &mut words, origin, number);
+    Stop::Told(line, words)
 }
 
-/// Reports the source of this number, whose name is no UTF-8, or an earlier one that cannot be
-/// read.
-fn say_no_text(reporter: &Reporter<'_>, origin: Origin<'_>, number: usize) -> Status {
-    for before in 0..number {
-        if let Some(why) = why_missing(reporter, origin, before) {
-            return say_missing(reporter, origin, before, &why);
+/// Returns why a build stops whose sources cannot be used: the first one that cannot be read, and
+/// words about all of them.
+pub fn unusable_sources(rt: &HostRuntime, origin: Origin<'_>, why: Unusable, words: Words) -> Stop {
+    let (number, why) = match why {
+        Unusable::OutOfMemory => return Stop::Memory,
+        Unusable::Missing(number, why) => (number, why),
+    };
+    if matches!(why, Refusal::Reason(Reason::NoText)) {
+        // the names were looked at, and no file before this one
+        for before in 0..number {
+            if let Some(why) = why_missing(rt, origin, before) {
+                return missing(rt, origin, before, why, words);
+            }
         }
     }
-    say_missing(reporter, origin, number, &Missing::NoText)
+    missing(rt, origin, number, why, words)
 }
 
 /// Returns the names of the sources as texts, since only a UTF-8 name can be opened.
-pub fn names_of<'m>(
-    reporter: &Reporter<'_>,
-    origin: Origin<'_>,
-    sources: &'m [Name],
-) -> Result<Vec<&'m str>, Status>
+///
+/// # Errors
+///
+/// `Missing` for the first name that is no UTF-8; `OutOfMemory`.
+pub fn names_of<'m>(alloc: Global, sources: &'m [Name]) -> Result<Vec<&'m str>, Unusable>
     ensures { IfOk result (λ names. map (λ n. n.now) names.items ≡ sources.now) }
 {
-    let mut names = Vec::new(reporter.rt.alloc());
+    let mut names = Vec::new(alloc);
     for source in sources {
         let Ok(name) = str::from_utf8(source.as_bytes()) else {
-            return Err(say_no_text(reporter, origin, names.len()));
+            return Err(Unusable::Missing(names.len(), Reason::NoText.into()));
         };
-        if names.push(name).is_err() {
-            return Err(reporter.say(Ending::Memory));
-        }
+        names.push(name)?;
     }
     Ok(names)
 }
 
 /// Returns the same for names that were joined with a directory.
-pub fn texts_of<'m>(
-    reporter: &Reporter<'_>,
-    origin: Origin<'_>,
-    joined: &'m [Vec<u8>],
-) -> Result<Vec<&'m str>, Status>
+///
+/// # Errors
+///
+/// `Missing` for the first name that is no UTF-8; `OutOfMemory`.
+pub fn texts_of<'m>(alloc: Global, joined: &'m [Vec<u8>]) -> Result<Vec<&'m str>, Unusable>
     ensures { IfOk result (λ names. map (λ n. n.now) names.items
         ≡ map (λ j. j.items) joined.now) }
 {
-    let mut names = Vec::new(reporter.rt.alloc());
+    let mut names = Vec::new(alloc);
     for bytes in joined {
         let Ok(name) = str::from_utf8(bytes) else {
-            return Err(say_no_text(reporter, origin, names.len()));
+            return Err(Unusable::Missing(names.len(), Reason::NoText.into()));
         };
-        if names.push(name).is_err() {
-            return Err(reporter.say(Ending::Memory));
-        }
+        names.push(name)?;
     }
     Ok(names)
 }
 
 /// The state of the source of this name: the one in which a scan found it, if there was one.
-fn found_stamp(reporter: &Reporter<'_>, origin: Origin<'_>, name: &str) -> io::Result<Stamp> {
+fn found_stamp(rt: &HostRuntime, origin: Origin<'_>, name: &str) -> Result<Stamp, Refusal> {
     match origin.states().and_then(|states| states.get(name)) {
         Some(stamp) => Ok(stamp),
-        None => stamp_by(reporter, origin, name),
+        None => stamp_by(rt, origin, name),
     }
 }
 
 /// Returns the state of each source.
+///
+/// # Errors
+///
+/// `Missing` for the first source that cannot be read; `OutOfMemory`.
 pub fn stamps_of(
-    reporter: &Reporter<'_>,
+    rt: &HostRuntime,
     origin: Origin<'_>,
     names: &[&str],
-) -> Result<Vec<Stamp>, Status>
+) -> Result<Vec<Stamp>, Unusable>
     ensures { IfOk result (λ stamps. length stamps.items ≡ length names.now) }
 {
-    let mut stamps = Vec::new(reporter.rt.alloc());
+    let mut stamps = Vec::new(rt.alloc());
     for name in names {
-        let stamp = match found_stamp(reporter, origin, name) {
-            Ok(stamp) => stamp,
-            Err(e) => {
-                return Err(say_missing(reporter, origin, stamps.len(), &Missing::Refused(e)));
-            }
-        };
-        if stamps.push(stamp).is_err() {
-            return Err(reporter.say(Ending::Memory));
+        match found_stamp(rt, origin, name) {
+            Ok(stamp) => stamps.push(stamp)?,
+            Err(e) => return Err(Unusable::Missing(stamps.len(), e)),
         }
     }
     Ok(stamps)
 }
 
 /// Returns the number of bytes of each source.
-pub fn sizes_of(reporter: &Reporter<'_>, stamps: &[Stamp]) -> Result<Vec<u64>, Status>
+pub fn sizes_of(alloc: Global, stamps: &[Stamp]) -> Result<Vec<u64>, AllocError>
     ensures { IfOk result (λ sizes. sizes.items ≡ map (λ s. s.len) stamps.now) }
 {
-    let mut sizes = Vec::new(reporter.rt.alloc());
+    let mut sizes = Vec::new(alloc);
     for stamp in stamps {
-        if sizes.push(stamp.len).is_err() {
-            return Err(reporter.say(Ending::Memory));
-        }
+        sizes.push(stamp.len)?;
     }
     Ok(sizes)
 }

@@ -2,7 +2,7 @@
 ghost use Rattle.std.specs.Prelude.{◌≤◌};
 ghost use Rattle.rom_tree.specs.Tree.{IsShallow};
 
-use crate::reporter::Reporter;
+use crate::words::Words;
 use elf_format::needs_pages;
 use image_check::check;
 use rom_commands::Asked;
@@ -102,11 +102,11 @@ pub fn is_many_times(bytes: u64, len: usize) -> bool {
     bytes / MANY_TIMES > len as u64
 }
 
-/// Explains how long the output for an image will be, if its files are many times larger than the
+/// Adds how long the output for an image will be, if its files are many times larger than the
 /// image. This can be so if cramfs files share blocks, or a romfs file has many names.
-pub fn explain(reporter: &Reporter<'_>, name: &[u8], bytes: &[u8], asked: Asked) {
-    let alloc = reporter.rt.alloc();
-    if !reporter.is_explained() || !matches!(asked, Asked::Map(_) | Asked::Facts(_)) {
+pub fn explain(words: &mut Words, name: &[u8], bytes: &[u8], asked: Asked) {
+    let alloc = words.alloc();
+    if !words.are_asked() || !matches!(asked, Asked::Map(_) | Asked::Facts(_)) {
         return;
     }
     let Ok(image) = check(alloc, bytes, Limits::usual()) else {
@@ -129,6 +129,6 @@ pub fn explain(reporter: &Reporter<'_>, name: &[u8], bytes: &[u8], asked: Asked)
         format!(in alloc; "its files have {contents} bytes, and the image has {len}")
     };
     if let Ok(what) = what {
-        reporter.explain(name, &what);
+        words.add(name, &what);
     }
 }

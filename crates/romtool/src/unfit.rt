@@ -1,12 +1,10 @@
 //! The attributes of the scanned files that a format does not keep.
-use crate::output::errors;
-use crate::reporter::Reporter;
+use crate::stop::{Line, Stop};
+use crate::words::Words;
 use build_commands::changes::{ChangeCounts, changes_of, count_changes};
 use build_commands::inventory::NamedFile;
-use build_commands::print_unfit;
 use command_line::ScanAll;
 use manifest::Entry;
-use rom_commands::Status;
 use sentences::changed::{Attribute, Changed, Paths, Scan, counted};
 use std::alloc::{AllocError, Global};
 
@@ -64,15 +62,15 @@ impl Unfit {
         self.counts.are_zero()
     }
 
-    /// Explains what is changed, if something is.
-    pub fn explain(&self, reporter: &Reporter<'_>, scan: &ScanAll<'_>) {
-        if reporter.is_explained() && !self.is_none() {
-            let _ = self.try_explain(reporter, scan);
+    /// Adds what is changed to words, if something is.
+    pub fn explain(&self, words: &mut Words, scan: &ScanAll<'_>) {
+        if words.are_asked() && !self.is_none() {
+            let _ = self.try_explain(words, scan);
         }
     }
 
-    /// Explains what is changed, or would be changed if that is refused.
-    fn try_explain(&self, reporter: &Reporter<'_>, scan: &ScanAll<'_>) -> Result<(), AllocError> {
+    /// Adds what is changed, or would be changed if that is refused.
+    fn try_explain(&self, words: &mut Words, scan: &ScanAll<'_>) -> Result<(), AllocError> {
         let (Some(format), Some(place)) = (scan.format, scan.directories.first()) else {
             return Ok(());
         };
@@ -82,35 +80,33 @@ impl Unfit {
             has_owner: scan.owner.is_some(),
         };
         for changed in [&self.owners, &self.groups, &self.modes] {
-            if let Some(what) = changed.said(reporter.rt.alloc(), asked)? {
-                reporter.explain(place.as_bytes(), &what);
+            if let Some(what) = changed.said(words.alloc(), asked)? {
+                words.add(place.as_bytes(), &what);
             }
         }
-        self.explain_opened(reporter, place, format.name())
+        self.explain_opened(words, place, format.name())
     }
 
-    /// Explains which files become readable by all, if any do.
+    /// Adds which files become readable by all, if any do.
     fn explain_opened(
         &self,
-        reporter: &Reporter<'_>,
+        words: &mut Words,
         place: &str,
         format: &str,
     ) -> Result<(), AllocError> {
-        let alloc = reporter.rt.alloc();
+        let alloc = words.alloc();
         if self.opened.count() > 0 {
             let count = counted(alloc, self.opened.count(), "name")?;
             let paths = self.opened.shown(alloc)?;
             let what = format!(in alloc; "{count} newly readable by all in {format}: {paths}")?;
-            reporter.explain(place.as_bytes(), &what);
+            words.add(place.as_bytes(), &what);
         }
         Ok(())
     }
 
-    /// Reports a refusal by the line `unfit OWNERS GROUPS MODES` on standard error.
-    pub fn refuse(&self, reporter: &Reporter<'_>, scan: &ScanAll<'_>) -> Status {
-        // the status says it, even if standard error accepts no line
-        let _ = print_unfit(&mut errors(reporter.rt), self.counts);
-        self.explain(reporter, scan);
-        Status::Refused
+    /// Returns the refusal of what is changed, with these words and those of the changes.
+    pub fn refusal(&self, scan: &ScanAll<'_>, mut words: Words) -> Stop {
+        self.explain(&mut words, scan);
+        Stop::Told(Line::Unfit(self.counts), words)
     }
 }

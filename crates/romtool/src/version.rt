@@ -1,19 +1,16 @@
 //! Prints the program's version, for scripts.
-use crate::reporter::Reporter;
+use crate::stop::Stop;
 use command_line::VERSION;
 use program_streams::Held;
-use rom_commands::{Ending, Status};
+use rom_commands::Status;
 use std::io::{self, Write};
 
 /// Prints `romtool VERSION`, by one write.
-pub fn run(reporter: &Reporter<'_>) -> Status {
-    let rt = reporter.rt;
-    let Ok(line) = format!(in rt.alloc(); "romtool {VERSION}\n") else {
-        return reporter.say(Ending::Memory);
-    };
+pub fn run(rt: &HostRuntime) -> Result<Status, Stop> {
+    let line = format!(in rt.alloc(); "romtool {VERSION}\n")?;
     let mut out = Held::new(rt.alloc(), io::writer(rt));
     match out.write_all(line.as_bytes()).and_then(|()| out.flush()) {
-        Ok(()) => Status::Done,
-        Err(_) => reporter.say(Ending::WriteFault),
+        Ok(()) => Ok(Status::Done),
+        Err(_) => Err(Stop::unwritten()),
     }
 }

@@ -1,12 +1,22 @@
 //! The warnings of a build in words, and its refusal if it is strict.
-use crate::foreseen::{Warning, Warnings};
+ghost use Rattle.std.specs.Prelude.{◌≡◌, length};
+ghost use Rattle.manifest.specs.Lines.{sources_of};
+
 use crate::in_place::Unplaced;
 use crate::origin::Origin;
 use crate::reporter::Reporter;
+use build_commands::{Warning, Warnings, last_blocks, warning_name};
+use manifest::Line;
 use program_report::Reason;
 use sentences::words::shown;
 use sentences::{misread_sentence, program_sentence};
 use std::alloc::AllocError;
+
+/// The number of the warning of files that end with a whole block.
+const LAST_BLOCK: usize = 1;
+
+/// How many further files that end with a whole block are named one by one.
+const MOST_NAMED: usize = 20;
 
 /// Explains the warning of one number.
 fn explain_one(
@@ -18,10 +28,7 @@ fn explain_one(
 ) -> Result<(), AllocError> {
     let alloc = reporter.rt.alloc();
     let number = u32::try_from(number).unwrap_or(u32::MAX);
-    let (name, sentence) = (
-        build_commands::warning_name(number),
-        misread_sentence(number),
-    );
+    let (name, sentence) = (warning_name(number), misread_sentence(number));
     let (count, line) = (warning.count, warning.line);
     let place = if line == 0 {
         String::from_str(alloc, origin.name)?
@@ -43,14 +50,66 @@ fn explain_one(
     Ok(())
 }
 
-/// Explains the warnings, each after a word.
-pub fn explain(reporter: &Reporter<'_>, origin: Origin<'_>, warnings: &Warnings<'_>, word: &str) {
+/// Explains that the file of a line ends with a whole block, as others do.
+fn explain_block(
+    reporter: &Reporter<'_>,
+    origin: Origin<'_>,
+    line: &Line,
+) -> Result<(), AllocError> {
+    let what = "LastBlock, too";
+    if origin.scanned.is_some() {
+        // the manifest of a scan is in no file
+        reporter.explain(line.path.as_bytes(), &what);
+    } else {
+        let place = format!(in reporter.rt.alloc(); "{}:{}", origin.name, line.number)?;
+        reporter.explain(place.as_bytes(), &what);
+    }
+    Ok(())
+}
+
+/// Explains which files end with a whole block, except the first one: some of them one by one, and
+/// then how many more.
+fn explain_blocks(
+    reporter: &Reporter<'_>,
+    origin: Origin<'_>,
+    sizes: &[u64],
+) -> Result<(), AllocError>
+    requires { length sizes.now ≡ length (sources_of origin.manifest.now.lines) }
+{
+    let alloc = reporter.rt.alloc();
+    let Ok(all) = last_blocks(alloc, origin.manifest, sizes) else {
+        return Err(AllocError);
+    };
+    for line in all.iter().skip(1).take(MOST_NAMED) {
+        explain_block(reporter, origin, line)?;
+    }
+    let more = all.len().saturating_sub(1 + MOST_NAMED);
+    if more > 0 {
+        let what = format!(in alloc; "{more} more files with LastBlock")?;
+        reporter.explain(origin.name.as_bytes(), &what);
+    }
+    Ok(())
+}
+
+/// Explains the warnings of an image whose sources have these sizes, each after a word.
+pub fn explain(
+    reporter: &Reporter<'_>,
+    origin: Origin<'_>,
+    sizes: &[u64],
+    warnings: &Warnings<'_>,
+    word: &str,
+)
+    requires { length sizes.now ≡ length (sources_of origin.manifest.now.lines) }
+{
     if !reporter.is_explained() {
         return;
     }
     for (number, warning) in warnings.all().iter().enumerate() {
         if warning.count > 0 {
             let _ = explain_one(reporter, origin, number, warning, word);
+        }
+        if warning.count > 1 && number == LAST_BLOCK {
+            let _ = explain_blocks(reporter, origin, sizes);
         }
     }
 }

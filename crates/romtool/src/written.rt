@@ -1,12 +1,11 @@
 //! The files that a scan writes, in directories that it may scan.
 use crate::patterns::Patterns;
-use crate::reporter::Reporter;
+use crate::stop::{Stop, failed};
 use build_commands::inventory::{FileKind, NamedFile};
-use rom_commands::{Ending, Status};
 use sentences::reasons::SCANNED;
 use std::alloc::AllocError;
-use std::{fs, str};
-use system_files::{Identity, directory_of, name_in_directory, way_to};
+use std::str;
+use system_files::{Identity, directory_of, identity_of, name_in_directory, way_to};
 
 /// A file that is written: its name, and the name behind all links.
 #[derive(Drop)]
@@ -17,11 +16,14 @@ pub struct Written<'a> {
 
 /// Returns the files of these names that are written. A name whose links cannot be followed stays:
 /// it is refused when the file is opened.
+///
+/// # Errors
+///
+/// `AllocError`.
 pub fn files_written<'a>(
-    reporter: &Reporter<'_>,
+    rt: &HostRuntime,
     names: &[Option<&'a str>],
-) -> Result<Vec<Written<'a>>, Status> {
-    let rt = reporter.rt;
+) -> Result<Vec<Written<'a>>, AllocError> {
     let mut all = Vec::new(rt.alloc());
     for name in names {
         let Some(name) = *name else {
@@ -29,14 +31,9 @@ pub fn files_written<'a>(
         };
         let whole = match way_to(rt, name) {
             Ok(whole) => whole,
-            Err(_) => match String::from_str(rt.alloc(), name) {
-                Ok(whole) => whole,
-                Err(_) => return Err(reporter.say(Ending::Memory)),
-            },
+            Err(_) => String::from_str(rt.alloc(), name)?,
         };
-        if all.push(Written { name, whole }).is_err() {
-            return Err(reporter.say(Ending::Memory));
-        }
+        all.push(Written { name, whole })?;
     }
     Ok(all)
 }
@@ -56,27 +53,29 @@ impl Written<'_> {
 
     /// Refuses to write it into a directory that is scanned, unless it is excluded: the next scan
     /// would find it.
+    ///
+    /// # Errors
+    ///
+    /// `Failed`, `Memory`.
     pub fn check(
         &self,
-        reporter: &Reporter<'_>,
+        rt: &HostRuntime,
         found: &[NamedFile],
         patterns: &Patterns,
-    ) -> Result<(), Status> {
-        let Ok(there) = fs::metadata(reporter.rt, directory_of(&self.whole)) else {
+    ) -> Result<(), Stop> {
+        let Some(there) = identity_of(rt, directory_of(&self.whole)) else {
             return Ok(());
         };
         let is_there = |file: &NamedFile| {
             let inode = &file.inode;
             matches!(file.kind, FileKind::Directory)
-                && Identity::at(inode.device, inode.number) == Identity::of(&there)
+                && Identity::at(inode.device, inode.number) == there
         };
-        let Some(directory) = found.iter().find(|file| is_there(file)) else {
-            return Ok(());
-        };
-        match self.is_found_in(reporter.rt, directory, patterns) {
-            Ok(false) => Ok(()),
-            Ok(true) => Err(reporter.failed(self.name.as_bytes(), &SCANNED)),
-            Err(_) => Err(reporter.say(Ending::Memory)),
+        match found.iter().find(|file| is_there(file)) {
+            Some(directory) if self.is_found_in(rt, directory, patterns)? => {
+                Err(failed(rt.alloc(), self.name, SCANNED))
+            }
+            _ => Ok(()),
         }
     }
 }

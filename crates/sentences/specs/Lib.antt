@@ -5,3 +5,4 @@ pub mod Misfits
 pub mod Misreads
 pub mod Programs
 pub mod Replies
+pub mod Refusals

@@ -7,7 +7,7 @@ misread_sentence n =
     if n == 0 then
     codes "no line makes a file, so the image has only an empty root; did the scan fail?"
     else (if n == 1 then
-    codes "Linux reads the last 4,096 bytes of a file as zeros if its length is a multiple of 4,096; append a byte to the source"
+    codes "Linux reads the last 4,096 bytes of a file as zeros if its length is a multiple of 4,096; append a byte to the source (truncate -s +1 FILE)"
     else (if n == 2 then
     codes "Linux shows files that share contents with the mode and the owner of one of them; write a file line with the source instead of same"
     else (if n == 3 then

@@ -213,8 +213,7 @@ pub fn seen(alloc: Global, bytes: &[u8], number: u32, at: u32) -> Result<String,
 }
 
 /// Returns why an image of which so many bytes would be read is refused, in words: the option or
-/// the variable `by` allows fewer. Each number has at most ten digits if they are below 2^32, and
-/// then the words have at most 80 bytes.
+/// the variable `by` allows fewer.
 ///
 /// # Errors
 ///

@@ -10,7 +10,7 @@ pub fn misread_sentence(number: u32) -> &'static str
     match number {
         0 => "no line makes a file, so the image has only an empty root; did the scan fail?",
         1 =>
-            "Linux reads the last 4,096 bytes of a file as zeros if its length is a multiple of 4,096; append a byte to the source",
+            "Linux reads the last 4,096 bytes of a file as zeros if its length is a multiple of 4,096; append a byte to the source (truncate -s +1 FILE)",
         2 =>
             "Linux shows files that share contents with the mode and the owner of one of them; write a file line with the source instead of same",
         3 => "Linux lists only 127 bytes of a name that has 128; shorten it",

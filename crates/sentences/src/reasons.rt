@@ -1,37 +1,4 @@
-//! The program's own reasons why it cannot use a file. Each has at most 80 bytes, as many as an
-//! error of std keeps.
-
-/// A source is a directory, a device, a FIFO or a socket.
-pub const NO_REGULAR_FILE: &str = "it is not a regular file";
-
-/// A manifest is longer than it may be.
-pub const MANIFEST_TOO_LONG: &str = "a manifest has at most 2^30 bytes";
-
-/// A manifest that does not end in what is read of it.
-pub const LINE_TOO_LONG: &str = "a line of it has more than 2^20 bytes, so it is no manifest";
-
-/// The file that is to be scanned is no directory.
-pub const NO_FOLDER: &str = "it is not a directory";
-
-/// Symbolic links lead to one another.
-pub const TOO_MANY_LINKS: &str = "more than 40 symbolic links follow one another";
-
-/// No name is left for the part of a build.
-pub const HUNDRED_PARTS: &str =
-    "a hundred parts, .NAME.romtool-0.part and so on, are beside it; remove old ones";
-
-/// A directory holds a file of a kind that no manifest has.
-pub const NO_KIND: &str = "it is of a kind that no manifest has";
-
-/// The file that is to be replaced was renamed or removed meanwhile.
-pub const REPLACED: &str = "another file took its name meanwhile";
-
-/// A source changed.
-pub const SOURCE_CHANGED: &str = "it changed while it was read";
-
-/// A read of a source failed, or returned fewer or more bytes than the system reported.
-pub const SOURCE_UNREAD: &str =
-    "it could not be read, or its length is not the length that the system reported";
+//! What the program says of a file, a word or a line for a reason of its own.
 
 /// A file was left out of a scan.
 pub const PART_LEFT_OUT: &str =
@@ -41,9 +8,6 @@ pub const PART_LEFT_OUT: &str =
 pub const NO_PART: &str =
     "warning: it has the name of a part of a file that this command writes, but not the mark of \
      one (mode 1000), so it is scanned like any other file";
-
-/// A file or a directory changed during a scan.
-pub const FOLDER_CHANGED: &str = "it changed while it was scanned";
 
 /// The image or the rule has the name of a file that the image is made of.
 pub const OWN_INPUT: &str = "it is the manifest or a source, which a build never replaces";
@@ -61,14 +25,11 @@ pub const OWN_PART: &str = "it has the name of a part of OUT, or OUT that of a p
 /// A rule has a name that make cannot read.
 pub const RULE_UNFIT: &str = "make cannot read a name in it; PROTOCOL.md lists such names";
 
-/// A source is a symbolic link, and none is followed.
-pub const SOURCE_LINK: &str = "it is a symbolic link, and --no-follow refuses these";
+/// The last word of `pack` is a directory, and one before it is none.
+pub const OUT_IS_LAST: &str = "it is a directory; OUT, the file of the image, is the last word";
 
 /// The system refused a part of the image.
 pub const NOT_TAKEN: &str = "not all of the image could be written to it";
-
-/// A name of a source cannot be passed to the system.
-pub const NO_TEXT: &str = "a name that is not UTF-8 cannot be opened";
 
 /// A word of the command line is no UTF-8.
 pub const NO_WORD: &str = "it is not UTF-8, and every word has to be UTF-8";
@@ -94,58 +55,14 @@ pub const MISREAD: &str =
 pub const NOT_IN_PLACE: &str =
     "Linux does not execute all of these programs in place; see PROTOCOL, Programs in place";
 
-/// A directory that is to be filled is not empty.
-pub const NOT_EMPTY: &str = "it is not empty";
-
-/// A directory that is to be filled belongs to another user, who could change it meanwhile.
-pub const OF_ANOTHER_USER: &str =
-    "it is owned by another user, who could change what is made in it";
-
-/// The empty file that shows the process's mask could not be removed.
-pub const PROBE_LEFT: &str = "the file .romtool-probe in it could not be removed: remove it";
-
-/// Other users may replace what is made in the directory.
-pub const OPEN_TO_OTHERS: &str =
-    "other users may write in it, and could replace what is made in it";
-
-/// Another user made the link to the directory, or may replace it.
-pub const LINK_OF_ANOTHER: &str =
-    "it is a link that another user made or may replace: name the directory itself";
-
-/// A link to the file that is written is another user's, or another user may replace it.
-pub const OUT_BY_LINK: &str =
-    "another user made a link to it, or may replace one: name the file itself";
-
-/// A file system on the block device, or on a partition of it, is mounted.
-pub const MOUNTED: &str = "a file system on it, or on a partition of it, is mounted: unmount it";
-
-/// Swap space is on the block device, or on a partition of it.
-pub const SWAPPED: &str = "it, or a partition of it, is used as swap space: run swapoff first";
-
 /// The directory that was being filled is incomplete.
 pub const INCOMPLETE: &str = "it is incomplete; the files that were made in it are still there";
-
-/// A name of an image is longer than the system allows.
-pub const NAME_UNFIT: &str = "a name has at most 255 bytes here, and a whole path 4095";
-
-/// The system does not allow the text of a link.
-pub const LINK_UNFIT: &str =
-    "its text is empty or not UTF-8, or has a zero byte or over 4095 bytes";
-
-/// The system refused a part of a file.
-pub const FILE_NOT_TAKEN: &str = "not all of the file could be written";
 
 /// No manifest can describe the image, since a path in it is too long.
 pub const LONG_PATH: &str = "a path in it has more than 4095 bytes, the most in a manifest";
 
 /// No manifest can describe the image, since its volume's name is too long.
 pub const LONG_VOLUME: &str = "its volume's name has more than 255 bytes, the most in a manifest";
-
-/// A directory that is scanned holds a name that is no UTF-8. Only the directory can be named.
-pub const FOREIGN_NAME: &str = "a name in it is not UTF-8; ls -b shows it";
-
-/// The text of a scanned link is no UTF-8.
-pub const FOREIGN_LINK: &str = "the text of the link is not UTF-8; readlink shows it";
 
 /// A pattern ends within brackets or after a backslash.
 pub const PATTERN_UNFINISHED: &str = "it has a [ without its ], or a backslash at its end";
@@ -162,13 +79,6 @@ pub const OWN_FILE: &str = "it is a file that the manifest lists, or the file of
 /// The manifest would be in a directory that is scanned.
 pub const SCANNED: &str = "it is in a scanned directory, so the next scan would list it";
 
-/// A device of overlayfs that stands for a name that was removed.
-pub const WHITEOUT: &str =
-    "it is a whiteout of overlayfs (device 0:0); scan the mounted overlay instead";
-
-/// The file that is to be replaced belongs to another user, in a directory such as `/tmp`.
-pub const OUT_OF_ANOTHER: &str = "another user made it, in a directory like /tmp; remove it first";
-
 /// A file named `-` cannot be opened.
 pub const NO_STREAM: &str = "- is the name of a file here; standard input is /dev/stdin";
 
@@ -181,14 +91,6 @@ pub const WAITS: &str = "waits for requests, such as stat /; Ctrl-D ends them; s
 /// Requests to several images are read from a terminal.
 pub const SPACE_WAITS: &str =
     "waits for requests with a session, such as 0 stat /; Ctrl-D ends them; see LINES";
-
-/// The environment does not say how large images may be.
-pub const NO_MAX_SIZE: &str =
-    "ROMTOOL_MAX_SIZE is no number of bytes, such as 4096, 64K, 2M, 1G or 0x10000";
-
-/// Owners and devices would not be those that fakeroot or pseudo shows.
-pub const FAKED: &str = "fakeroot or pseudo is in the environment and does not reach this program \
-    (it is static, or LD_PRELOAD is lost), so owners and devices would be wrong";
 
 /// The manifest has the name of standard output.
 pub const OWN_STREAM: &str = "it is the file that standard output is written to";
@@ -204,6 +106,9 @@ pub const LONG_NAME: &str = "the name of a volume has at most 255 bytes";
 
 /// A file of devices has a line of another kind.
 pub const DEVICE_WORD: &str = "a file of devices has only dir, slink, nod, pipe, sock and mode";
+
+/// The fields of a line of `mode`.
+pub const MODE_LINE: &str = "a mode line is: mode PATH MODE UID GID";
 
 /// The path of a line in a file of devices exists already.
 pub const DEVICE_EXISTS: &str =

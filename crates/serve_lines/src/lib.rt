@@ -1,16 +1,22 @@
-//! Serving lines from a reader to a writer. `serve_lines` answers the lines by any machine of
-//! lines, and reports how it ended. `read_line` returns the command of a line, and `put_reply` puts
+//! Serving lines from a reader to a writer, over any machine of lines; the command of a line, and
 //! the text of a reply.
 //!
-//! Proved: `serve_lines` writes exactly the replies of `specs/Served.antt`, each of them whole
-//! before it reads the next byte, and reports whether the reader, the writer or the count of reads
-//! ended it early. No failed write or flush is ignored, and as many flushes succeed as replies are
-//! written. `specs/Views.antt` defines what one of several sessions sees.
+//! `specs/Served.antt` has the machine of lines, `specs/Commands.antt` the commands, and
+//! `specs/Texts.antt` the replies; `specs/Views.antt` defines what one of several sessions sees. No
+//! command or reply takes memory; contents are sent as hexadecimal digits through a fixed buffer.
 //!
-//! `read_line` returns exactly the command of a line (`specs/Commands.antt`): its word, its numbers
-//! and its path, or its fault, in the order of the tests. `put_reply` puts exactly the text of a
-//! reply (`specs/Texts.antt`). Neither takes memory. Contents are sent as hexadecimal digits
-//! through a fixed buffer.
+//! Proved:
+//!
+//! - `serve_lines`: for any machine of lines, its replies are written, each of them whole before
+//!   the next byte is read, and as many flushes succeed as there are replies; no failed write or
+//!   flush is ignored. Exactly the *used* input is read: up to and including the line that ends the
+//!   serving, or all of it; if the serving breaks off, all that was read until then, in which no
+//!   earlier line had ended it. It ends with a failed read or write only if one failed, and with
+//!   too many reads only after as many as are allowed; each ending says what was written by then.
+//!   At most as many bytes are read as reads are allowed.
+//! - `laws::lines_again`: lines of an input that are joined and cut again are the same lines.
+//! - `read_line`, `put_reply`: the command of a line (its word, its numbers and its path), or its
+//!   fault, in the order of the tests; the text of each reply.
 #![tactic(auto)]
 
 mod bad;

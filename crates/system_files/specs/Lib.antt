@@ -2,4 +2,3 @@ pub mod Device
 pub mod Names
 pub mod Parts
 pub mod Loads
-pub mod Placed

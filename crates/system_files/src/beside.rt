@@ -228,6 +228,22 @@ impl System<'_> {
     ghost use Rattle.std.specs.Prelude.{MatchResult, IfOk, IfErr};
     ghost use Rattle.atomic_file.specs.Accounts.{log_of, room_of, call_of};
 
+    /// Returns the calls that were made, and what they returned.
+    pub fn into_account(self) -> Account
+        ensures { result ≡ self.entry.beside.account }
+    {
+        self.beside.into_account()
+    }
+
+    /// Returns why the directory refused to keep a part: the first call that was refused, or that
+    /// another file has the name.
+    pub fn refusal(self) -> KeepError {
+        match self.beside.error() {
+            Some(e) => e,
+            None => KeepError::Changed,
+        }
+    }
+
     /// Creates the file of a part at a path where nothing is. If a file is there again after it was
     /// removed, another build uses the name, which is counted.
     fn open_new(&mut self, name: u32, path: &str) -> Result<File, CreateError>

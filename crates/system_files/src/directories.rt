@@ -1,9 +1,9 @@
 //! Directories of the system, and their states.
 ghost use Rattle.system_files.specs.Names.{IsBase};
 
+use crate::reason::{Reason, Refusal};
 use crate::stamp::Stamp;
 use directory_walk::Directory;
-use sentences::reasons::NO_FOLDER;
 use std::fs::{self, Metadata};
 use std::io;
 
@@ -24,10 +24,10 @@ pub fn is_foreign(e: &io::Error) -> bool {
 /// # Errors
 ///
 /// The operating system's error; `NotADirectory` for another file.
-pub fn directory_at(rt: &HostRuntime, name: &str) -> io::Result<Metadata> {
+pub fn directory_at(rt: &HostRuntime, name: &str) -> Result<Metadata, Refusal> {
     let metadata = fs::metadata(rt, name)?;
     if !metadata.is_dir() {
-        return Err(io::Error::new(io::ErrorKind::NotADirectory, NO_FOLDER));
+        return Err(Reason::NotADirectory.into());
     }
     Ok(metadata)
 }

@@ -1,15 +1,15 @@
 //! The file system as what opens the sources of an image.
 use crate::progress::Progress;
+use crate::reason::{Reason, Refusal};
 use crate::stamp::{Identity, Stamp, has_changed, open_unchanged, stamp_of};
 use file_sources::Opener;
-use sentences::reasons::{REPLACED, SOURCE_CHANGED, SOURCE_LINK};
 use std::fs::File;
 use std::os::unix::fs::FileExt;
 use std::{fs, io};
 
 /// A file that is open, and its name.
 #[derive(Drop)]
-pub struct Opened<'a> {
+pub struct OpenedSource<'a> {
     name: &'a str,
     file: File,
 }
@@ -27,6 +27,15 @@ impl<'a> Disk<'a> {
     pub fn new(rt: &'a HostRuntime, progress: Progress<'a>) -> Disk<'a> {
         Disk { rt, progress }
     }
+
+    /// Returns why a source was not read, for the error that `open` or `read_at` returned.
+    pub fn refusal(e: io::Error) -> Refusal {
+        if e.raw_os_error().is_none() && e.kind() == io::ErrorKind::InvalidData {
+            Refusal::Reason(Reason::SourceChanged)
+        } else {
+            Refusal::System(e)
+        }
+    }
 }
 
 /// What the system's files hold is known by no proof. So these two functions are trusted: that
@@ -38,7 +47,7 @@ impl<'a> Opener for Disk<'a> {
 
     type State = Stamp;
 
-    type File = Opened<'a>;
+    type File = OpenedSource<'a>;
 
     ghost spelled = { λ n. n.now };
 
@@ -48,15 +57,16 @@ impl<'a> Opener for Disk<'a> {
 
     ghost IsLog = { λ _ _. ⊤ };
 
-    fn open(&mut self, name: &&'a str, stamp: &Stamp) -> io::Result<Opened<'a>> {
+    fn open(&mut self, name: &&'a str, stamp: &Stamp) -> io::Result<OpenedSource<'a>> {
         let name: &'a str = *name;
         match open_unchanged(self.rt, name, stamp)? {
-            Some(file) => Ok(Opened { name, file }),
-            None => Err(io::Error::new(io::ErrorKind::InvalidData, SOURCE_CHANGED)),
+            Some(file) => Ok(OpenedSource { name, file }),
+            // it changed, as `refusal` says
+            None => Err(io::Error::from(io::ErrorKind::InvalidData)),
         }
     }
 
-    fn read_at(&mut self, open: &Opened<'a>, at: u64, buf: &mut [u8]) -> io::Result<usize> {
+    fn read_at(&mut self, open: &OpenedSource<'a>, at: u64, buf: &mut [u8]) -> io::Result<usize> {
         let n = open.file.read_at(buf, at)?;
         self.progress.add(n);
         Ok(n)
@@ -72,15 +82,15 @@ impl<'a> Opener for Disk<'a> {
 ///
 /// # Errors
 ///
-/// The operating system's error; `InvalidInput` for a link and for a file that is not regular.
-pub fn stamp_unlinked(rt: &HostRuntime, name: &str) -> io::Result<Stamp> {
+/// The operating system's error; `SourceLink`; `NotRegular`; `Replaced`.
+pub fn stamp_unlinked(rt: &HostRuntime, name: &str) -> Result<Stamp, Refusal> {
     let metadata = fs::symlink_metadata(rt, name)?;
     if metadata.is_symlink() {
-        return Err(io::Error::new(io::ErrorKind::InvalidInput, SOURCE_LINK));
+        return Err(Reason::SourceLink.into());
     }
     let stamp = stamp_of(rt, name)?;
     if stamp.identity() != Identity::of(&metadata) {
-        return Err(io::Error::new(io::ErrorKind::NotFound, REPLACED));
+        return Err(Reason::Replaced.into());
     }
     Ok(stamp)
 }

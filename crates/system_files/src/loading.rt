@@ -2,7 +2,7 @@
 ghost use Rattle.std.specs.Prelude.{IfOk, IfSome};
 ghost use Rattle.system_files.specs.Loads.{Loads};
 
-use image_check::{HEAD, SUMMED, is_sum_refused, reach_of};
+use formats::{HEAD, SUMMED, is_sum_refused, reach_of};
 use program_streams::read_until;
 use rom_faults::{Fault, fault};
 use std::alloc::Global;

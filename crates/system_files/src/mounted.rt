@@ -1,6 +1,6 @@
 //! Block devices that the system uses.
 use crate::device::device_of;
-use sentences::reasons::{MOUNTED, SWAPPED};
+use crate::reason::Reason;
 use std::fs::{self, Metadata};
 use std::io;
 use std::os::unix::fs::{FileTypeExt, MetadataExt};
@@ -85,7 +85,7 @@ fn is_mount_of(rt: &HostRuntime, line: &str, all: &[String]) -> bool {
 /// Returns why a file that is a block device must not be written: it, a partition of it, or a
 /// device that is made of these has a file system that is mounted, or swap space, by what Linux
 /// lists. If that cannot be read, nothing is known.
-pub fn use_of(rt: &HostRuntime, found: &Metadata) -> Option<&'static str> {
+pub fn use_of(rt: &HostRuntime, found: &Metadata) -> Option<Reason> {
     if !found.file_type().is_block_device() {
         return None;
     }
@@ -93,11 +93,11 @@ pub fn use_of(rt: &HostRuntime, found: &Metadata) -> Option<&'static str> {
     if let Ok(mounts) = fs::read_to_string(rt, MOUNTS)
         && mounts.lines().any(|line| is_mount_of(rt, line, &all))
     {
-        return Some(MOUNTED);
+        return Some(Reason::Mounted);
     }
     let swaps = fs::read_to_string(rt, SWAPS).ok()?;
     let mut names = swaps.lines().filter_map(|line| line.split(' ').next());
     names
         .any(|name| is_one_of(rt, name, &all))
-        .then_some(SWAPPED)
+        .then_some(Reason::Swapped)
 }

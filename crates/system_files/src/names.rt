@@ -3,7 +3,7 @@ ghost use Rattle.std.specs.Prelude.{◌≡◌};
 ghost use Rattle.system_files.specs.Names.{IsDirectoryOf, IsNameInDirectory, or_root};
 
 use crate::owner::{STICKY, WRITABLE_BY_OTHERS};
-use sentences::reasons::{OUT_BY_LINK, TOO_MANY_LINKS};
+use crate::reason::{Reason, Refusal};
 use std::fs::Metadata;
 use std::os::unix::fs::MetadataExt;
 use std::{fs, io};
@@ -58,7 +58,7 @@ pub fn is_own_file(rt: &HostRuntime, found: &Metadata) -> bool {
 /// Checks that a link leads where root, the user of the process, or the owner of what is behind it
 /// lets it lead: nobody else made it. If it is the last name of a path, nobody else may replace it
 /// either.
-fn check_link(rt: &HostRuntime, link: &str, behind: &str, is_last: bool) -> io::Result<()> {
+fn check_link(rt: &HostRuntime, link: &str, behind: &str, is_last: bool) -> Result<(), Refusal> {
     let behind = fs::metadata(rt, behind).ok();
     let is_trusted = |found: &Metadata| {
         found.uid() == 0
@@ -72,7 +72,7 @@ fn check_link(rt: &HostRuntime, link: &str, behind: &str, is_last: bool) -> io::
     if is_kept && is_trusted(&fs::symlink_metadata(rt, link)?) {
         return Ok(());
     }
-    Err(io::Error::new(io::ErrorKind::PermissionDenied, OUT_BY_LINK))
+    Err(Reason::LinkToOutput.into())
 }
 
 /// The name to which the text of a link leads, if the link has this name.
@@ -105,16 +105,15 @@ fn first_link<'a>(rt: &HostRuntime, path: &'a str) -> io::Result<Option<(&'a str
 ///
 /// # Errors
 ///
-/// The operating system's error; `FilesystemLoop` if too many links follow one another;
-/// `PermissionDenied` for a link that another user made, or may replace.
-pub fn way_to(rt: &HostRuntime, name: &str) -> io::Result<String> {
+/// The operating system's error; `TooManyLinks`; `LinkToOutput`.
+pub fn way_to(rt: &HostRuntime, name: &str) -> Result<String, Refusal> {
     let mut whole = String::from_str(rt.alloc(), name)?;
     for _ in 0..=MOST_LINKS {
         let (link, rest) = match first_link(rt, &whole) {
             Ok(Some(found)) => found,
             Ok(None) => return Ok(whole),
             Err(e) if e.kind() == io::ErrorKind::NotFound => return Ok(whole),
-            Err(e) => return Err(e),
+            Err(e) => return Err(e.into()),
         };
         let behind = led_to(rt, link, fs::read_link(rt, link)?.as_str())?;
         check_link(rt, link, &behind, rest.is_empty())?;
@@ -123,5 +122,5 @@ pub fn way_to(rt: &HostRuntime, name: &str) -> io::Result<String> {
         }
         whole = format!(in rt.alloc(); "{behind}{rest}")?;
     }
-    Err(io::Error::new(io::ErrorKind::FilesystemLoop, TOO_MANY_LINKS))
+    Err(Reason::TooManyLinks.into())
 }

@@ -1,5 +1,5 @@
 //! States of files. A changed file has another state.
-use sentences::reasons::NO_REGULAR_FILE;
+use crate::reason::{Reason, Refusal};
 use std::fs::{self, File, Metadata, OpenFile};
 use std::os::unix::fs::MetadataExt;
 use std::time::{Clock, Duration};
@@ -112,21 +112,21 @@ impl Stamp {
 ///
 /// # Errors
 ///
-/// The operating system's error; `InvalidInput` if the file is not regular.
-pub fn stamp_of(rt: &HostRuntime, name: &str) -> io::Result<Stamp> {
+/// The operating system's error; `NotRegular`.
+pub fn stamp_of(rt: &HostRuntime, name: &str) -> Result<Stamp, Refusal> {
     Ok(open_stamped(rt, name)?.1)
 }
 
 /// Opens a regular file for reading, and returns its state.
-fn open_stamped(rt: &HostRuntime, name: &str) -> io::Result<(File, Stamp)> {
+fn open_stamped(rt: &HostRuntime, name: &str) -> Result<(File, Stamp), Refusal> {
     // another kind is not opened, since opening a FIFO waits for its writer
     if !fs::metadata(rt, name)?.is_file() {
-        return Err(io::Error::new(io::ErrorKind::InvalidInput, NO_REGULAR_FILE));
+        return Err(Reason::NotRegular.into());
     }
     let file = File::open(rt, name)?;
     let found = file.metadata()?;
     if !found.is_file() {
-        return Err(io::Error::new(io::ErrorKind::InvalidInput, NO_REGULAR_FILE));
+        return Err(Reason::NotRegular.into());
     }
     Ok((file, Stamp::of(&found)))
 }

@@ -1,9 +1,6 @@
 //! The target of an image. It gets its name only after all of it is written.
-ghost use Rattle.std.specs.Prelude.{◌≡◌, ◌≤◌, ◌%◌, [], length};
-ghost use Rattle.std.specs.Prelude.{IfErr, OnOk};
+ghost use Rattle.std.specs.Prelude.{◌≡◌, ◌≤◌, []};
 ghost use Rattle.atomic_file.specs.Accounts.{log_of, room_of};
-ghost use Rattle.build_commands.specs.Built.{IsFateAfter};
-ghost use Rattle.build_commands.specs.declared.fate.Fate.TheVariants.{Open, Kept};
 
 use crate::beside::{
     Beside, KeepError, NAMES, Others, PartRights, System, into_file, is_of_its_kind,
@@ -13,17 +10,11 @@ use crate::mounted::use_of;
 use crate::names::{directory_of, is_own_file, name_in_directory, way_to};
 use crate::owner::{STICKY, WRITABLE_BY_OTHERS};
 use crate::parts::is_part_name;
-use crate::placed::Placed;
+use crate::reason::{Reason, Refusal};
 use crate::stamp::Identity;
 use crate::writer::Writer;
-use atomic_file::{Begun, Durability, Unbegun, Unfinished, abandon, begin, keep};
-use build_commands::{
-    Closer, Companion, Ended, Fate, Job, Tools, Unbuilt, Unplaced, build_file, build_over,
-};
-use file_sources::Opener;
-use image_build::{LastCheck, Unwritten};
-use rom_fields::{ByteWrite, Failed};
-use sentences::reasons::{HUNDRED_PARTS, OUT_OF_ANOTHER, REPLACED};
+use atomic_file::{Begun, Durability, Unbegun, abandon, begin, keep};
+use rom_fields::Failed;
 use std::fs::{File, Metadata, OpenFile, OpenOptions};
 use std::marker::Model;
 use std::os::unix::fs::MetadataExt;
@@ -66,13 +57,36 @@ pub struct Target {
     ready: Option<Ready>,
 }
 
-/// The reason why a target was not filled and kept.
+/// A part that is open to be filled, in the directory of the name that it is to have.
 #[derive(Drop)]
-pub enum FillError<E: Drop> {
-    /// The source or the writer failed; and the reason that the system gave to the writer.
-    NotWritten(E, Option<io::Error>),
-    /// It did not get its name.
-    NotKept(KeepError),
+pub struct OpenPart<'a> {
+    pub system: System<'a>,
+    pub begun: Begun<Writer>,
+}
+
+impl<'a> Model for OpenPart<'a> {
+    ghost use Rattle.std.specs.Prelude.{◌≤◌, []};
+    ghost use Rattle.atomic_file.specs.Accounts.{log_of, room_of};
+    ghost use Rattle.atomic_file.specs.Moments.{IsBegun};
+    ghost use Rattle.system_files.specs.Parts.{part_names};
+
+    ghost Value = { Unit {0} };
+
+    ghost view = { λ _. tt };
+
+    ghost invariant = { λ p. IsBegun part_names p.begun.name [] (log_of p.system.beside.account)
+        × (4 ≤ room_of p.system.beside.account) };
+}
+
+/// What a target is written to.
+#[derive(Drop)]
+pub enum Opened<'a> {
+    /// A part, which gets its name at the end.
+    Part(OpenPart<'a>),
+    /// A file that is not regular, which is written in place.
+    Straight(Writer),
+    /// Nothing: its writer was taken.
+    Nothing,
 }
 
 fn to_write(rt: &HostRuntime, name: &str) -> io::Result<File> {
@@ -89,15 +103,15 @@ fn opened_directory(rt: &HostRuntime, name: &str) -> io::Result<Option<File>> {
 }
 
 /// Returns why the system refused a part.
-fn refusal(beside: Beside, e: Unbegun) -> io::Error {
+fn refusal(beside: Beside, e: Unbegun) -> Refusal {
     match (e, beside.error()) {
-        (Unbegun::Refused, Some(KeepError::Refused(e))) => e,
-        _ => io::Error::new(io::ErrorKind::AlreadyExists, HUNDRED_PARTS),
+        (Unbegun::Refused, Some(KeepError::Refused(e))) => Refusal::System(e),
+        _ => Refusal::Reason(Reason::HundredParts),
     }
 }
 
 /// Makes a part.
-fn target_beside(rt: &HostRuntime, beside: Beside) -> io::Result<Target>
+fn target_beside(rt: &HostRuntime, beside: Beside) -> Result<Target, Refusal>
     requires log { log_of beside.account ≡ [] }
     requires room { 304 ≤ room_of beside.account }
 {
@@ -131,19 +145,19 @@ fn is_shared(directory: &Metadata) -> bool {
 /// Refuses to replace a file that another user made in a directory where all users may make files:
 /// the new file would be that user's. The owner of the directory and the user of the process are
 /// trusted.
-fn check_maker(rt: &HostRuntime, name: &str, found: &Metadata) -> io::Result<()> {
+fn check_maker(rt: &HostRuntime, name: &str, found: &Metadata) -> Result<(), Refusal> {
     let directory = fs::metadata(rt, directory_of(name))?;
     if !is_shared(&directory) || found.uid() == directory.uid() || is_own_file(rt, found) {
         return Ok(());
     }
-    Err(io::Error::new(io::ErrorKind::PermissionDenied, OUT_OF_ANOTHER))
+    Err(Reason::OutputOfAnother.into())
 }
 
 /// Makes a new file beside a regular file that can be written, with its owner and permissions.
-fn in_place_of(rt: &HostRuntime, whole: &str, inputs: Vec<Identity>) -> io::Result<Target> {
+fn in_place_of(rt: &HostRuntime, whole: &str, inputs: Vec<Identity>) -> Result<Target, Refusal> {
     let found = to_write(rt, whole)?.metadata()?;
     if Identity::of(&fs::symlink_metadata(rt, whole)?) != Identity::of(&found) {
-        return Err(io::Error::new(io::ErrorKind::NotFound, REPLACED));
+        return Err(Reason::Replaced.into());
     }
     let directory = opened_directory(rt, whole)?;
     check_maker(rt, whole, &found)?;
@@ -160,9 +174,9 @@ fn in_a_new_place(
     name: &str,
     inputs: Vec<Identity>,
     missing: io::Error,
-) -> io::Result<Target> {
+) -> Result<Target, Refusal> {
     match fs::symlink_metadata(rt, name) {
-        Ok(_) => Err(missing),
+        Ok(_) => Err(missing.into()),
         Err(e) if e.kind() == io::ErrorKind::NotFound => {
             let directory = opened_directory(rt, name)?;
             let rights = PartRights {
@@ -171,12 +185,12 @@ fn in_a_new_place(
             };
             target_beside(rt, Beside::new(rt, name, directory, rights, inputs)?)
         }
-        Err(e) => Err(e),
+        Err(e) => Err(e.into()),
     }
 }
 
 /// Opens the file with this name, which is not regular.
-fn straight(rt: &HostRuntime, name: &str) -> io::Result<Target> {
+fn straight(rt: &HostRuntime, name: &str) -> Result<Target, Refusal> {
     let file = to_write(rt, name)?;
     let straight = match file.metadata() {
         Ok(found) => Some(Identity::of(&found)),
@@ -217,16 +231,6 @@ pub fn is_part_of(rt: &HostRuntime, part: &str, whole: &str) -> bool {
     is_part_name(part, whole) && are_in_one_directory(rt, part, whole)
 }
 
-/// What closes a file that is not regular, and what the system answered.
-#[derive(Drop)]
-struct StraightCloser<'a> {
-    rt: &'a HostRuntime,
-    // the answer to the synchronization, unless it was refused
-    synced: Option<Durability>,
-    // whether the close was answered without an error
-    is_closed: bool,
-}
-
 /// Synchronizes a file that is not regular, if that can be done.
 fn synced(file: &File) -> io::Result<Durability> {
     match file.sync_all() {
@@ -236,57 +240,24 @@ fn synced(file: &File) -> io::Result<Durability> {
     }
 }
 
-impl Closer for StraightCloser<'_> {
-    ghost use Rattle.std.specs.Prelude.{◌≡◌, Some, true};
-    ghost use Rattle.atomic_file.specs.declared.directory.Durability.{Durability};
-
-    type File = Writer;
-
-    type Error = KeepError;
-
-    // What the file has then is known by no proof.
-    ghost closed = { λ c _. (d : Durability) × (c.synced ≡ Some d) × (c.is_closed ≡ true) };
-
-    fn close(&mut self, file: Writer) -> Result<(), KeepError> {
-        let file = match into_file(file) {
-            Ok(file) => file,
-            Err(e) => return Err(KeepError::Refused(e)),
-        };
-        match synced(&file) {
-            Ok(durability) => self.synced = Some(durability),
-            Err(e) => return Err(KeepError::Refused(e)),
-        }
-        match close(self.rt, file) {
-            Ok(()) => {
-                self.is_closed = true;
-                Ok(())
-            }
-            Err(e) => Err(KeepError::Refused(e)),
-        }
+/// Synchronizes a file that is not regular, if that can be done, and closes it. Returns whether it
+/// was synchronized.
+///
+/// # Errors
+///
+/// `Refused`: the error of the first write that failed, or of the synchronization, or of the close.
+pub fn close_straight(rt: &HostRuntime, writer: Writer) -> Result<Durability, KeepError> {
+    match closed(rt, writer) {
+        Ok(durability) => Ok(durability),
+        Err(e) => Err(KeepError::Refused(e)),
     }
 }
 
-/// Returns what closes a file that is not regular.
-fn straight_closer(rt: &HostRuntime) -> StraightCloser<'_> {
-    StraightCloser {
-        rt,
-        synced: None,
-        is_closed: false,
-    }
-}
-
-/// Synchronizes a file that is not regular, if that can be done, and closes it.
-fn keep_straight(rt: &HostRuntime, writer: Writer) -> Result<(), KeepError> {
-    let mut closer = straight_closer(rt);
-    closer.close(writer)
-}
-
-/// Returns why a directory refused to keep a part.
-fn reason(beside: Beside) -> KeepError {
-    match beside.error() {
-        Some(e) => e,
-        None => KeepError::Changed,
-    }
+fn closed(rt: &HostRuntime, writer: Writer) -> io::Result<Durability> {
+    let file = into_file(writer)?;
+    let durability = synced(&file)?;
+    close(rt, file)?;
+    Ok(durability)
 }
 
 impl Ready {
@@ -296,62 +267,7 @@ impl Ready {
         let mut system = System { rt, beside };
         match keep(&mut system, NAMES, Begun { name, part }) {
             Ok(_) => Ok(()),
-            Err(Failed) => Err(reason(system.beside)),
-        }
-    }
-
-    /// Fills the part with the image of a job, gives it its name, and reports this. `Ok`: by the
-    /// account of the calls that were made, the file is this image.
-    fn build<O: Opener, K: LastCheck, C: Companion, W: ByteWrite>(
-        self,
-        rt: &HostRuntime,
-        part: Writer,
-        job: &Job<'_, O>,
-        tools: Tools<O, K>,
-        companion: &mut C,
-        buffer: &mut [u8],
-        out: &mut W,
-    ) -> Ended<O, K, Result<Placed, Unbuilt<FillError<Unwritten<K::Error>>, C::Error>>>
-        requires buffer { 4096 ≤ length buffer.old }
-        requires words { length buffer.old % 4 ≡ 0 }
-        requires companion { C.fate companion.old ≡ Open }
-        ensures kept { OnOk result.result (C.fate companion.new ≡ Kept) }
-        ensures unkept { IfErr result.result (IsFateAfter (C.fate companion.new)) }
-    {
-        let Ready { beside, name } = self;
-        let mut system = System { rt, beside };
-        let Ended {
-            opener,
-            last,
-            unread,
-            result,
-        } = build_file(
-            &mut system,
-            NAMES,
-            Begun { name, part },
-            job,
-            tools,
-            companion,
-            buffer,
-            out,
-        );
-        let result = match result {
-            Ok(_) => Ok(Placed::Renamed(system.beside.into_account())),
-            Err(Unbuilt::NotMade(Unfinished::NotWritten(e, part))) => {
-                let reason = part.error();
-                Err(Unbuilt::NotMade(FillError::NotWritten(e, reason)))
-            }
-            Err(Unbuilt::NotMade(Unfinished::NotKept)) => {
-                Err(Unbuilt::NotMade(FillError::NotKept(reason(system.beside))))
-            }
-            Err(Unbuilt::NotKept(e)) => Err(Unbuilt::NotKept(e)),
-            Err(Unbuilt::NotReported) => Err(Unbuilt::NotReported),
-        };
-        Ended {
-            opener,
-            last,
-            unread,
-            result,
+            Err(Failed) => Err(system.refusal()),
         }
     }
 
@@ -370,18 +286,19 @@ impl Target {
     /// # Errors
     ///
     /// The operating system's error: for a directory, for a file that cannot be written, for a link
-    /// that leads nowhere or that others made or may replace, or if no file can be made beside it;
-    /// `ResourceBusy` for a block device that the system uses.
-    pub fn open(rt: &HostRuntime, name: &str, inputs: Vec<Identity>) -> io::Result<Target> {
+    /// that leads nowhere, or if no file can be made beside it; `LinkToOutput`, `TooManyLinks`,
+    /// `OutputOfAnother`, `Replaced`, `HundredParts`; `Mounted` or `Swapped` for a block device
+    /// that the system uses.
+    pub fn open(rt: &HostRuntime, name: &str, inputs: Vec<Identity>) -> Result<Target, Refusal> {
         let whole = way_to(rt, name)?;
         match fs::metadata(rt, &whole) {
             Ok(found) if found.is_file() => in_place_of(rt, &whole, inputs),
             Ok(found) => match use_of(rt, &found) {
-                Some(why) => Err(io::Error::new(io::ErrorKind::ResourceBusy, why)),
+                Some(why) => Err(why.into()),
                 None => straight(rt, &whole),
             },
             Err(e) if e.kind() == io::ErrorKind::NotFound => in_a_new_place(rt, &whole, inputs, e),
-            Err(e) => Err(e),
+            Err(e) => Err(e.into()),
         }
     }
 
@@ -432,51 +349,27 @@ impl Target {
         let Target { writer, ready, .. } = self;
         match (writer, ready) {
             (Some(writer), Some(ready)) => ready.keep(rt, writer),
-            (Some(writer), None) => keep_straight(rt, writer),
+            (Some(writer), None) => {
+                close_straight(rt, writer)?;
+                Ok(())
+            }
             (None, _) => Err(KeepError::Changed),
         }
     }
 
-    /// Fills it with the image of a job, gives it its name as `keep` does, keeps the companion, and
-    /// writes `ok LENGTH` to `out`. `Ok`: a part was renamed, if there is one, by the account of
-    /// the calls that were made; otherwise the file was written in place.
-    ///
-    /// # Errors
-    ///
-    /// Those of `build_commands::build_file`. A file that is not regular has what was written.
-    pub fn build<O: Opener, K: LastCheck, C: Companion, W: ByteWrite>(
-        self,
-        rt: &HostRuntime,
-        job: &Job<'_, O>,
-        tools: Tools<O, K>,
-        companion: &mut C,
-        buffer: &mut [u8],
-        out: &mut W,
-    ) -> Ended<O, K, Result<Placed, Unbuilt<FillError<Unwritten<K::Error>>, C::Error>>>
-        requires buffer { 4096 ≤ length buffer.old }
-        requires words { length buffer.old % 4 ≡ 0 }
-        requires companion { C.fate companion.old ≡ Open }
-        ensures kept { OnOk result.result (C.fate companion.new ≡ Kept) }
-        ensures unkept { IfErr result.result (IsFateAfter (C.fate companion.new)) }
-    {
+    /// Returns what it is written to.
+    pub fn opened(self, rt: &HostRuntime) -> Opened<'_> {
         let Target { writer, ready, .. } = self;
         match (writer, ready) {
-            (Some(writer), Some(ready)) => {
-                ready.build(rt, writer, job, tools, companion, buffer, out)
+            (Some(part), Some(ready)) => {
+                let Ready { beside, name } = ready;
+                Opened::Part(OpenPart {
+                    system: System { rt, beside },
+                    begun: Begun { name, part },
+                })
             }
-            (Some(writer), None) => {
-                build_straight(rt, writer, job, tools, companion, buffer, out)
-            }
-            (None, _) => {
-                let Tools { opener, last } = tools;
-                companion.give_up();
-                Ended {
-                    opener,
-                    last,
-                    unread: None,
-                    result: Err(Unbuilt::NotMade(FillError::NotKept(KeepError::Changed))),
-                }
-            }
+            (Some(writer), None) => Opened::Straight(writer),
+            (None, _) => Opened::Nothing,
         }
     }
 
@@ -486,87 +379,5 @@ impl Target {
         if let Some(ready) = ready {
             ready.abandon(rt);
         }
-    }
-}
-
-/// Fills a file that is not regular with the image of a job, closes it, and reports this.
-fn build_straight<O: Opener, K: LastCheck, C: Companion, W: ByteWrite>(
-    rt: &HostRuntime,
-    writer: Writer,
-    job: &Job<'_, O>,
-    tools: Tools<O, K>,
-    companion: &mut C,
-    buffer: &mut [u8],
-    out: &mut W,
-) -> Ended<O, K, Result<Placed, Unbuilt<FillError<Unwritten<K::Error>>, C::Error>>>
-    requires buffer { 4096 ≤ length buffer.old }
-    requires words { length buffer.old % 4 ≡ 0 }
-    requires companion { C.fate companion.old ≡ Open }
-    ensures kept { OnOk result.result (C.fate companion.new ≡ Kept) }
-    ensures unkept { IfErr result.result (IsFateAfter (C.fate companion.new)) }
-{
-    let mut closer = straight_closer(rt);
-    let Ended {
-        opener,
-        last,
-        unread,
-        result,
-    } = build_over(&mut closer, writer, job, tools, companion, buffer, out);
-    let result = match result {
-        Ok(()) => Ok(Placed::Written(closer.synced.unwrap_or(Durability::Unknown))),
-        Err(Unbuilt::NotMade(Unplaced::NotWritten(e, writer))) => {
-            let reason = writer.error();
-            Err(Unbuilt::NotMade(FillError::NotWritten(e, reason)))
-        }
-        Err(Unbuilt::NotMade(Unplaced::NotClosed(e))) => {
-            Err(Unbuilt::NotMade(FillError::NotKept(e)))
-        }
-        Err(Unbuilt::NotKept(e)) => Err(Unbuilt::NotKept(e)),
-        Err(Unbuilt::NotReported) => Err(Unbuilt::NotReported),
-    };
-    Ended {
-        opener,
-        last,
-        unread,
-        result,
-    }
-}
-
-/// A target that is kept with an image, or given up with it.
-#[derive(Drop)]
-pub struct KeptWith<'a> {
-    pub rt: &'a HostRuntime,
-    pub target: Option<Target>,
-    /// What became of it.
-    pub fate: Fate,
-}
-
-impl Companion for KeptWith<'_> {
-    type Error = KeepError;
-
-    ghost fate = { λ k. k.fate };
-
-    fn keep(&mut self) -> Result<(), KeepError> {
-        let kept = match self.target.take() {
-            Some(target) => target.keep(self.rt),
-            None => Ok(()),
-        };
-        match kept {
-            Ok(()) => {
-                self.fate = Fate::Kept;
-                Ok(())
-            }
-            Err(e) => {
-                self.fate = Fate::Lost;
-                Err(e)
-            }
-        }
-    }
-
-    fn give_up(&mut self) {
-        if let Some(target) = self.target.take() {
-            target.abandon(self.rt);
-        }
-        self.fate = Fate::GivenUp;
     }
 }

@@ -1,15 +1,13 @@
 //! Makes directories, files and links where nothing exists, and syncs them to the disk if that is
 //! asked for.
-use sentences::reasons::{
-    LINK_OF_ANOTHER, NOT_EMPTY, OF_ANOTHER_USER, OPEN_TO_OTHERS, PROBE_LEFT, REPLACED,
-};
 use std::fs::{self, DirBuilder, File, Metadata, OpenFile, OpenOptions, Permissions};
 use std::os::unix::fs::{
     DirBuilderExt, MetadataExt, OpenOptionsExt, PermissionsExt, fchown, lchown, symlink,
 };
 use std::{env, io};
 use system_files::{
-    Identity, close, directory_at, directory_of, is_open_to_others, name_in_directory,
+    Identity, Reason, Refusal, close, directory_at, directory_of, is_open_to_others,
+    name_in_directory,
 };
 use tree_extract::{Owner, Rights};
 
@@ -45,34 +43,42 @@ fn give(file: &File, rights: Rights) -> io::Result<()> {
 }
 
 /// Makes a directory that nobody else may read.
-pub fn new_directory(rt: &HostRuntime, place: &str) -> io::Result<()> {
-    DirBuilder::new().mode(PRIVATE_FOLDER).create(rt, place)
+pub fn new_directory(rt: &HostRuntime, place: &str) -> Result<(), Refusal> {
+    DirBuilder::new().mode(PRIVATE_FOLDER).create(rt, place)?;
+    Ok(())
 }
 
 /// Makes an empty file that nobody else may read. No link is followed, and nothing is replaced.
-pub fn new_file(rt: &HostRuntime, place: &str) -> io::Result<File> {
-    OpenOptions::new()
+pub fn new_file(rt: &HostRuntime, place: &str) -> Result<File, Refusal> {
+    let mut options = OpenOptions::new();
+    let made = options
         .write(true)
         .create_new(true)
         .mode(PRIVATE_FILE)
-        .open(rt, place)
+        .open(rt, place)?;
+    Ok(made)
 }
 
 /// Makes a symbolic link with this text. Nothing is replaced.
-pub fn new_link(rt: &HostRuntime, text: &str, place: &str, owner: Option<Owner>) -> io::Result<()> {
+pub fn new_link(
+    rt: &HostRuntime,
+    text: &str,
+    place: &str,
+    owner: Option<Owner>,
+) -> Result<(), Refusal> {
     symlink(rt, text, place)?;
-    match owner {
-        Some(owner) => lchown(rt, place, Some(owner.uid), Some(owner.gid)),
-        None => Ok(()),
+    if let Some(owner) = owner {
+        lchown(rt, place, Some(owner.uid), Some(owner.gid))?;
     }
+    Ok(())
 }
 
 /// Opens an existing directory. No link is followed.
-fn opened(rt: &HostRuntime, place: &str) -> io::Result<File> {
+fn opened(rt: &HostRuntime, place: &str) -> Result<File, Refusal> {
     let directory = File::open(rt, place)?;
     let found = fs::symlink_metadata(rt, place)?;
     if Identity::of(&found) != Identity::of(&directory.metadata()?) {
-        return Err(io::Error::new(io::ErrorKind::NotFound, REPLACED));
+        return Err(Reason::Replaced.into());
     }
     Ok(directory)
 }
@@ -106,10 +112,11 @@ pub fn set_directory(
     place: &str,
     rights: Rights,
     syncing: Syncing,
-) -> io::Result<()> {
+) -> Result<(), Refusal> {
     let directory = opened(rt, place)?;
     give(&directory, rights)?;
-    sync_directory(&directory, syncing)
+    sync_directory(&directory, syncing)?;
+    Ok(())
 }
 
 /// Sets the mode and owner of a file that was written, syncs it to the disk if that is asked for,
@@ -119,22 +126,23 @@ pub fn finish_file(
     file: File,
     rights: Rights,
     syncing: Syncing,
-) -> io::Result<()> {
+) -> Result<(), Refusal> {
     give(&file, rights)?;
     if syncing == Syncing::Synced {
         file.sync_all()?;
     }
-    close(rt, file)
+    close(rt, file)?;
+    Ok(())
 }
 
 /// Makes a further name of a file, if the file system can, and returns whether it can. Other errors
 /// are returned.
-pub fn new_name(rt: &HostRuntime, file: &str, place: &str) -> io::Result<bool> {
+pub fn new_name(rt: &HostRuntime, file: &str, place: &str) -> Result<bool, Refusal> {
     match fs::hard_link(rt, file, place) {
         Ok(()) => Ok(true),
         Err(e) => match e.raw_os_error() {
             Some(NOT_PERMITTED | CROSSES_DEVICES | TOO_MANY_NAMES | NOT_SUPPORTED) => Ok(false),
-            _ => Err(e),
+            _ => Err(e.into()),
         },
     }
 }
@@ -144,22 +152,22 @@ pub fn new_name(rt: &HostRuntime, file: &str, place: &str) -> io::Result<bool> {
 ///
 /// # Errors
 ///
-/// The operating system's error; `PermissionDenied` if somebody else may.
-fn check_link(rt: &HostRuntime, link: &Metadata, behind: &Metadata) -> io::Result<()> {
+/// The operating system's error; `LinkOfAnother` if somebody else may.
+fn check_link(rt: &HostRuntime, link: &Metadata, behind: &Metadata) -> Result<(), Refusal> {
     let here = fs::metadata(rt, ".")?;
     let is_trusted = |found: &Metadata| found.uid() == behind.uid() || found.uid() == 0;
     if is_trusted(link) && is_trusted(&here) && !is_open_to_others(&here) {
         return Ok(());
     }
-    Err(io::Error::new(io::ErrorKind::PermissionDenied, LINK_OF_ANOTHER))
+    Err(Reason::LinkOfAnother.into())
 }
 
 /// Makes the directory of this name in the current directory, or finds the existing one, and enters
 /// it. Returns whether it was made.
-fn enter_name(rt: &HostRuntime, name: &str) -> io::Result<bool> {
+fn enter_name(rt: &HostRuntime, name: &str) -> Result<bool, Refusal> {
     let is_made = match new_directory(rt, name) {
         Ok(()) => true,
-        Err(e) if e.kind() == io::ErrorKind::AlreadyExists => false,
+        Err(Refusal::System(e)) if e.kind() == io::ErrorKind::AlreadyExists => false,
         Err(e) => return Err(e),
     };
     let found = fs::symlink_metadata(rt, name)?;
@@ -168,11 +176,11 @@ fn enter_name(rt: &HostRuntime, name: &str) -> io::Result<bool> {
     if found.is_symlink() {
         check_link(rt, &found, &there)?;
     } else if Identity::of(&found) != Identity::of(&there) {
-        return Err(io::Error::new(io::ErrorKind::NotFound, REPLACED));
+        return Err(Reason::Replaced.into());
     }
     env::set_current_dir(rt, name)?;
     if Identity::of(&fs::metadata(rt, ".")?) != Identity::of(&there) {
-        return Err(io::Error::new(io::ErrorKind::NotFound, REPLACED));
+        return Err(Reason::Replaced.into());
     }
     Ok(is_made)
 }
@@ -180,13 +188,13 @@ fn enter_name(rt: &HostRuntime, name: &str) -> io::Result<bool> {
 /// Checks that the current directory is empty. The buffer of its list is not moved, so that it
 /// takes little memory on the stack.
 #[inline(never)]
-fn check_empty(rt: &HostRuntime) -> io::Result<()> {
+fn check_empty(rt: &HostRuntime) -> Result<(), Refusal> {
     match fs::read_dir(rt, ".") {
-        Err(e) => Err(e),
+        Err(e) => Err(e.into()),
         Ok(mut entries) => match entries.next() {
             None => Ok(()),
-            Some(Ok(_)) => Err(io::Error::new(io::ErrorKind::DirectoryNotEmpty, NOT_EMPTY)),
-            Some(Err(e)) => Err(e),
+            Some(Ok(_)) => Err(Reason::NotEmpty.into()),
+            Some(Err(e)) => Err(e.into()),
         },
     }
 }
@@ -211,10 +219,11 @@ impl Top {
     ///
     /// # Errors
     ///
-    /// The operating system's error; `DirectoryNotEmpty`; `PermissionDenied` for another user's
-    /// directory or link, or for a directory in which others may replace files. Then an existing
-    /// directory is unchanged.
-    pub fn enter(rt: &HostRuntime, name: &str) -> io::Result<Top> {
+    /// The operating system's error; `NotADirectory`, `Replaced`; `NotEmpty`; `OfAnotherUser` and
+    /// `LinkOfAnother` for another user's directory or link, `OpenToOthers` for a directory in
+    /// which others may replace files; `ProbeLeft`. Then an existing directory is unchanged, except
+    /// that `ProbeLeft` leaves an empty file in it.
+    pub fn enter(rt: &HostRuntime, name: &str) -> Result<Top, Refusal> {
         let whole = match name.trim_end_matches('/') {
             "" if !name.is_empty() => "/.",
             whole => whole,
@@ -226,7 +235,7 @@ impl Top {
         check_empty(rt)?;
         let masked = masked_in(rt, &directory)?;
         if !is_made && is_open_to_others(&directory.metadata()?) {
-            return Err(io::Error::new(io::ErrorKind::PermissionDenied, OPEN_TO_OTHERS));
+            return Err(Reason::OpenToOthers.into());
         }
         Ok(Top {
             directory,
@@ -243,6 +252,10 @@ impl Top {
 
     /// Sets the mode and owner of the directory after it is filled, and syncs it and its name to
     /// the disk if that is asked for. A directory that existed keeps its mode and owner.
+    ///
+    /// # Errors
+    ///
+    /// The operating system's error.
     pub fn end(self, rights: Rights, syncing: Syncing) -> io::Result<()> {
         let Top {
             directory,
@@ -275,21 +288,21 @@ fn is_replaced(rt: &HostRuntime, probe: &File) -> bool {
 /// The bits of a mode that the process's mask removes from new files in the current directory. It
 /// has to belong to the user of the process. An empty file shows both, and is removed again; if it
 /// cannot be removed, the error says so.
-fn masked_in(rt: &HostRuntime, directory: &File) -> io::Result<u32> {
+fn masked_in(rt: &HostRuntime, directory: &File) -> Result<u32, Refusal> {
     let probe = OpenOptions::new()
         .write(true)
         .create_new(true)
         .mode(ALL_PERMISSIONS)
         .open(rt, PROBE)?;
     if is_replaced(rt, &probe) {
-        return Err(io::Error::new(io::ErrorKind::NotFound, REPLACED));
+        return Err(Reason::Replaced.into());
     }
-    if let Err(e) = fs::remove_file(rt, PROBE) {
-        return Err(io::Error::new(e.kind(), PROBE_LEFT));
+    if fs::remove_file(rt, PROBE).is_err() {
+        return Err(Reason::ProbeLeft.into());
     }
     let (made, there) = (probe.metadata()?, directory.metadata()?);
     if made.uid() != there.uid() {
-        return Err(io::Error::new(io::ErrorKind::PermissionDenied, OF_ANOTHER_USER));
+        return Err(Reason::OfAnotherUser.into());
     }
     Ok(ALL_PERMISSIONS & !made.mode())
 }

@@ -8,9 +8,9 @@ use crate::making::Syncing;
 use arrayvec::ArrayVec;
 use image_check::AnyImage;
 use image_manifest::{ImageTree, PATH_MAX};
-use sentences::reasons::{LINK_UNFIT, NAME_UNFIT, NO_TEXT};
 use std::alloc::AllocError;
-use std::{io, str};
+use std::str;
+use system_files::{Reason, Refusal};
 use tree_extract::{Kind, Tree};
 
 /// The most bytes of a name in Linux.
@@ -23,16 +23,16 @@ const LONGEST_PATH: usize = 4095;
 ///
 /// # Errors
 ///
-/// `InvalidFilename` if it is empty or too long, has a zero byte, or is no UTF-8.
-pub fn accepted_text(text: &[u8]) -> io::Result<&str>
+/// `LinkUnfit` if it is empty or too long, has a zero byte, or is no UTF-8.
+pub fn accepted_text(text: &[u8]) -> Result<&str, Reason>
     ensures { IfOk result (λ s. s.now ≡ text.now) }
 {
     if text.is_empty() || text.len() > LONGEST_PATH || text.contains(&0) {
-        return Err(io::Error::new(io::ErrorKind::InvalidFilename, LINK_UNFIT));
+        return Err(Reason::LinkUnfit);
     }
     match str::from_utf8(text) {
         Ok(text) => Ok(text),
-        Err(_) => Err(io::Error::new(io::ErrorKind::InvalidFilename, LINK_UNFIT)),
+        Err(_) => Err(Reason::LinkUnfit),
     }
 }
 
@@ -71,8 +71,8 @@ impl Members<'_> {
     ///
     /// # Errors
     ///
-    /// `OutOfMemory`; `InvalidFilename` if the path is no UTF-8.
-    pub fn place(&self, index: usize) -> io::Result<String>
+    /// The system's `OutOfMemory`; `NoText` if the path is no UTF-8.
+    pub fn place(&self, index: usize) -> Result<String, Refusal>
         requires { index < length (made_in self.now.tree.now.giving
             (any_view self.now.tree.now.image.now) self.now.tree.now.kinds.now) }
         ensures { IfOk result (λ p. string_bytes p ≡ codes "."
@@ -81,7 +81,7 @@ impl Members<'_> {
     {
         match String::from_utf8(self.named_in(".", index)?) {
             Ok(place) => Ok(place),
-            Err(_) => Err(io::Error::new(io::ErrorKind::InvalidFilename, NO_TEXT)),
+            Err(_) => Err(Refusal::Reason(Reason::NoText)),
         }
     }
 
@@ -90,8 +90,8 @@ impl Members<'_> {
     ///
     /// # Errors
     ///
-    /// `OutOfMemory`; `InvalidFilename` otherwise.
-    pub fn try_name(&self, index: usize, before: usize) -> io::Result<()>
+    /// The system's `OutOfMemory`; `NoText`; `NameUnfit`; `LinkUnfit`.
+    pub fn try_name(&self, index: usize, before: usize) -> Result<(), Refusal>
         requires { index < length (made_in self.now.tree.now.giving
             (any_view self.now.tree.now.image.now) self.now.tree.now.kinds.now) }
     {
@@ -100,10 +100,13 @@ impl Members<'_> {
         // in the manifest, the path follows that of the directory
         let whole = place.len().saturating_add(before);
         if longest > LONGEST_NAME || whole > LONGEST_PATH + 1 {
-            return Err(io::Error::new(io::ErrorKind::InvalidFilename, NAME_UNFIT));
+            return Err(Refusal::Reason(Reason::NameUnfit));
         }
         match self.tree.kind(index) {
-            Kind::Symlink => accepted_text(self.tree.link_text(index)).map(|_| ()),
+            Kind::Symlink => {
+                accepted_text(self.tree.link_text(index))?;
+                Ok(())
+            }
             _ => Ok(()),
         }
     }

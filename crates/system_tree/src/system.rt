@@ -13,9 +13,8 @@ use crate::making::{finish_file, new_directory, new_file, new_link, new_name, se
 use crate::members::{Members, accepted_text};
 use program_streams::{Again, Remembering};
 use rom_fields::Plain;
-use sentences::reasons::FILE_NOT_TAKEN;
 use std::fs::File;
-use std::io;
+use system_files::{Reason, Refusal};
 use tree_extract::{Account, Asked, Directory};
 
 /// A writer of a file, which remembers why the system refused a write.
@@ -49,7 +48,7 @@ impl<'a> System<'a> {
     }
 
     /// Asks for memory to note one more call, and returns the path of the member at an index.
-    fn place(&mut self, index: usize) -> io::Result<String>
+    fn place(&mut self, index: usize) -> Result<String, Refusal>
         requires { index < length (made_in self.old.members.tree.now.giving
             (any_view self.old.members.tree.now.image.now) self.old.members.tree.now.kinds.now) }
         ensures members { self.new.members ≡ self.old.members }
@@ -66,10 +65,11 @@ impl<'a> System<'a> {
 }
 
 impl Directory for System<'_> {
-    ghost use Rattle.std.specs.Prelude.{None};
+    ghost use Rattle.std.specs.Prelude.{None, option_map};
     ghost use Rattle.program_streams.specs.Streams.{first_error};
+    ghost use Rattle.system_files.specs.declared.reason.Refusal.TheVariants.{System as of_system};
 
-    type Error = io::Error;
+    type Error = Refusal;
 
     type File = Writer;
 
@@ -82,26 +82,26 @@ impl Directory for System<'_> {
 
     ghost fresh = { None };
 
-    ghost reason = { λ file. first_error file.inner };
+    ghost reason = { λ file. option_map of_system (first_error file.inner) };
 
-    fn make_directory(&mut self, index: usize) -> io::Result<()> {
+    fn make_directory(&mut self, index: usize) -> Result<(), Refusal> {
         let place = self.place(index)?;
         let made = new_directory(self.members.rt, &place);
         self.account.answer(Asked::MakeDirectory, index, made)
     }
 
-    fn make_file(&mut self, index: usize) -> io::Result<Writer> {
+    fn make_file(&mut self, index: usize) -> Result<Writer, Refusal> {
         let place = self.place(index)?;
         let made = new_file(self.members.rt, &place);
         self.account.note(Asked::MakeFile, index, made.is_ok());
         Ok(Plain::new(Remembering::new(Again::new(made?))))
     }
 
-    fn finish_file(&mut self, index: usize, file: Writer) -> io::Result<()> {
+    fn finish_file(&mut self, index: usize, file: Writer) -> Result<(), Refusal> {
         self.account.reserve()?;
         let (file, error) = file.into_inner().into_parts();
         if let Some(e) = error {
-            return Err(e);
+            return Err(Refusal::System(e));
         }
         let rights = self.members.tree.rights(index);
         let finished = finish_file(
@@ -114,14 +114,14 @@ impl Directory for System<'_> {
             .answer(Asked::FinishFile(rights), index, finished)
     }
 
-    fn unwritten(&self, file: Writer) -> io::Error {
+    fn unwritten(&self, file: Writer) -> Refusal {
         match file.into_inner().error() {
-            Some(e) => e,
-            None => io::Error::new(io::ErrorKind::WriteZero, FILE_NOT_TAKEN),
+            Some(e) => Refusal::System(e),
+            None => Refusal::Reason(Reason::FileNotTaken),
         }
     }
 
-    fn make_name(&mut self, index: usize, first: usize) -> io::Result<bool> {
+    fn make_name(&mut self, index: usize, first: usize) -> Result<bool, Refusal> {
         let place = self.place(index)?;
         let file = self.members.place(first)?;
         let made = new_name(self.members.rt, &file, &place);
@@ -135,14 +135,14 @@ impl Directory for System<'_> {
         made
     }
 
-    fn make_symlink(&mut self, index: usize, text: &[u8]) -> io::Result<()> {
+    fn make_symlink(&mut self, index: usize, text: &[u8]) -> Result<(), Refusal> {
         let place = self.place(index)?;
         let (text, owner) = (accepted_text(text)?, self.members.tree.rights(index).owner);
         let made = new_link(self.members.rt, text, &place, owner);
         self.account.answer(Asked::MakeSymlink(owner), index, made)
     }
 
-    fn set_rights(&mut self, index: usize) -> io::Result<()> {
+    fn set_rights(&mut self, index: usize) -> Result<(), Refusal> {
         let place = self.place(index)?;
         let rights = self.members.tree.rights(index);
         let set = set_directory(self.members.rt, &place, rights, self.members.syncing);

@@ -1,4 +1,4 @@
-# Not tried in Yocto: only its shell function was run (tests/recipes.py). In a configuration:
+# Not tried in Yocto: only its shell function was run (tests/test_recipes.py). In a configuration:
 #
 #     IMAGE_CLASSES += "image_types_romtool"
 #     IMAGE_FSTYPES += "romtool"

@@ -1,4 +1,4 @@
-# Not tried in Buildroot: only with stubs of its macros (tests/recipes.py). In a message, -:N is line N of rootfs.romtool.manifest.
+# Not tried in Buildroot: only with stubs of its macros (tests/test_recipes.py). In a message, -:N is line N of rootfs.romtool.manifest.
 
 ROOTFS_ROMTOOL_DEPENDENCIES = host-romtool
 ROOTFS_ROMTOOL_CRAMFS = $(if $(filter BIG,$(call qstrip,$(BR2_ENDIAN))),cramfs-be,cramfs)

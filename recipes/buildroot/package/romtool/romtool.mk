@@ -1,4 +1,4 @@
-# Not tried in Buildroot: only with stubs of its macros (tests/recipes.py). It installs host-romtool from the archive of a
+# Not tried in Buildroot: only with stubs of its macros (tests/test_recipes.py). It installs host-romtool from the archive of a
 # release. On a host without glibc 2.34, HOST_ROMTOOL_PROGRAM may be bin/romtool-static, which fakeroot does not reach: then
 # use --all-root and --devices, and run it without fakeroot's variables.
 

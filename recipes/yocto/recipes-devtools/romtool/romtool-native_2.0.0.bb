@@ -1,4 +1,4 @@
-# Not tried in Yocto: only its shell function was run (tests/recipes.py). It installs the program of a release.
+# Not tried in Yocto: only its shell function was run (tests/test_recipes.py). It installs the program of a release.
 SUMMARY = "Builds and checks romfs and cramfs images that are executed in place"
 LICENSE = "MIT"
 LIC_FILES_CHKSUM = "file://share/doc/romtool/LICENSE;md5=b7c74c976fbb5e4cf59f1caf3eedd9e1"

@@ -1,24 +1,33 @@
-use Rattle.std.proofs.Common.{◌≡◌, ℕ, ◌-◌, List, length, take, drop, length-drop, ap, ◌∙◌, subst}
-use Rattle.std.proofs.Common.{arith}
-use Rattle.std.proofs.lemmas.List.{take_rest}
+use Rattle.std.proofs.Common.{◌≡◌, ℕ, List, [], drop, ◌∙◌, ap, subst}
 use Rattle.std.specs.Io.KnownBytes.{Appends}
 use Rattle.rom_fields.specs.Written.{AppendsPrefix}
 use Rattle.rom_fields.proofs.Joins.{said_ok, said_quiet, said_front, said_rose, front_first}
 use Rattle.rom_tree.specs.Image.{Image}
 use Rattle.image_check.specs.Any.{any_view}
-use Rattle.image_compare.specs.declared.rows.Row.{Row}
 use Rattle.image_compare.specs.Diff.{names_lines, is_printed}
-use Rattle.image_compare.proofs.Reached.{reached_more, reached_all, known_left, rows_left}
+use Rattle.image_compare.proofs.Reached.{reached_more, reached_all}
+use Rattle.image_compare.proofs.Stepped.{nothing_next, step_within}
 use Rattle.image_compare.proofs.difference.write_lines.Goals as goal
+
+pub name_at-x-requires : goal.name_at-x-requires
+name_at-x-requires g c = (any_view c.args.old.now, c.requires.old)
+
+pub name_at-y-requires : goal.name_at-y-requires
+name_at-y-requires g c = (any_view c.args.new.now, c.requires.new)
 
 pub returns-then-are_over : goal.returns-then-are_over
 returns-then-are_over g c = λ ps qs d e.
     let m : Image = any_view c.args.old.now in
     let n : Image = any_view c.args.new.now in
     let h = c.loop-failed.invariant.reached ps qs d e in
+    let p : drop c.loop-failed.i ps ≡ [] =
+    nothing_next m c.name_at-x.result (drop c.loop-failed.i ps) c.if-are_over.ensures.old
+    (c.name_at-x.ensures.next m ps d) in
+    let q : drop c.loop-failed.j qs ≡ [] =
+    nothing_next n c.name_at-y.result (drop c.loop-failed.j qs) c.if-are_over.ensures.new
+    (c.name_at-y.ensures.next n qs e) in
     let all : h.done ≡ names_lines c.args.places m.bytes n.bytes ps qs =
-    reached_all _ _ c.args.places m.bytes n.bytes m n c.args.xs.now c.args.ys.now ps qs c.loop-failed.i c.loop-failed.j
-    c.loop-failed.printed d e c.if-are_over.ensures.over h in
+    reached_all _ _ c.args.places m.bytes n.bytes ps qs c.loop-failed.i c.loop-failed.j c.loop-failed.printed p q h in
     let P : List ℕ → Type 0 = λ v. Appends (g.W.ByteWrite.output c.args.w.now).contents
     (g.W.ByteWrite.output c.loop-failed.w).contents v in (
       subst P all (said_ok (g.W.ByteWrite.output c.args.w.now) (g.W.ByteWrite.output c.loop-failed.w)
@@ -33,9 +42,11 @@ pub put_step-step-requires : goal.put_step-step-requires
 put_step-step-requires g c =
     let m : Image = any_view c.args.old.now in
     let n : Image = any_view c.args.new.now in
+    let k = c.requires.old in
+    let l = c.requires.new in
     record {
-      old = known_left m c.args.xs.now c.loop-failed.i c.requires.old;
-      new = known_left n c.args.ys.now c.loop-failed.j c.requires.new;
+      old = (drop c.loop-failed.i k.0, c.name_at-x.ensures.next m k.0 k.1);
+      new = (drop c.loop-failed.j l.0, c.name_at-y.ensures.next n l.0 l.1);
       some = c.if-are_over.ensures.left;
       same = c.loop-failed.invariant.same;
     }
@@ -45,20 +56,16 @@ loop-failed-preserved g c =
     let m : Image = any_view c.args.old.now in
     let n : Image = any_view c.args.new.now in
     let i = c.loop-failed.invariant in
-    let xs : List Row = c.args.xs.now in
-    let ys : List Row = c.args.ys.now in
-    let k : length (take (length xs - c.loop-failed.i) (drop c.loop-failed.i xs)) ≡ length xs - c.loop-failed.i =
-    ap length (take_rest xs c.loop-failed.i) ∙ length-drop c.loop-failed.i xs in
-    let l : length (take (length ys - c.loop-failed.j) (drop c.loop-failed.j ys)) ≡ length ys - c.loop-failed.j =
-    ap length (take_rest ys c.loop-failed.j) ∙ length-drop c.loop-failed.j ys in
+    let s = c.put_step-step.ensures in
     record {
-      same = c.put_step-step.ensures.same;
-      within_old = omega (arith, k, i.within_old, c.put_step-step.ensures.within_old);
-      within_new = omega (arith, l, i.within_new, c.put_step-step.ensures.within_new);
+      same = s.same;
+      within_old = step_within c.name_at-x.result c.loop-failed.i _ c.put_step-step.result.old i.within_old
+          c.name_at-x.ensures.within s.old_one s.old_none;
+      within_new = step_within c.name_at-y.result c.loop-failed.j _ c.put_step-step.result.new i.within_new
+          c.name_at-y.ensures.within s.new_one s.new_none;
       reached = λ ps qs d e. reached_more _ _ _ c.args.places m.bytes n.bytes ps qs c.loop-failed.i c.loop-failed.j
           c.loop-failed.printed c.either-printed.result c.put_step-step.result (i.reached ps qs d e)
-          (c.put_step-step.ensures.puts _ _ (rows_left m xs ps c.loop-failed.i d) (rows_left n ys qs c.loop-failed.j e))
-          c.either-printed.ensures;
+          (s.puts _ _ (c.name_at-x.ensures.next m ps d) (c.name_at-y.ensures.next n qs e)) c.either-printed.ensures;
     }
 
 pub returns : goal.returns

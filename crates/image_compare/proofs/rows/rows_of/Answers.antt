@@ -1,36 +1,26 @@
-use Rattle.std.proofs.Common.{◌≡◌, ◌∷◌, [], ◌++◌, List, sym, ap, ◌∙◌, append_assoc, append-nil, subst, rules}
+use Rattle.std.proofs.Common.{List, ap, refl, subst, sym}
 use Rattle.std.proofs.lemmas.Cmp.{nat_list_cmp_total}
-use Rattle.std.proofs.lemmas.List.Sorted.{answers_always, ranks_by}
+use Rattle.std.proofs.lemmas.Fn.{answers_by}
+use Rattle.std.proofs.lemmas.List.Sorted.{ranks_by}
+use Rattle.std.specs.Ordering.{is_lt}
+use Rattle.std.specs.Borrow.{Bor}
 use Rattle.rom_tree.specs.Image.{Image}
-use Rattle.rom_tree.specs.Names.{Name, names}
-use Rattle.rom_tree.specs.Walks.{to_come}
-use Rattle.image_compare.specs.Rows.{AreRows}
-use Rattle.image_compare.proofs.Sorting.{row_path, rows_more, holds_sorted}
+use Rattle.image_check.specs.Any.{any_view}
+use Rattle.image_compare.specs.declared.directories.Directory.{Directory}
+use Rattle.image_compare.specs.Directories.{AreWays}
+use Rattle.image_compare.specs.Rows.{row_path}
+use Rattle.image_compare.proofs.Sorting.{holds_sorted}
 use Rattle.image_compare.proofs.rows.rows_of.Goals as goal
 
-pub loop-node-preserved : goal.loop-node-preserved
-loop-node-preserved g c =
-    let m : Image = g.T.Viewed.image c.args.image.now in
-    let i = c.loop-node.invariant in
-    let n = c.in-Some.ensures.given in
-    let r = c.in_ok-row.row in
-    record {
-      walk = c.in-Some.ensures.walk;
-      before = i.before ++ n.name ∷ [];
-      names = append_assoc i.before (n.name ∷ []) (to_come m c.next.new.self)
-          ∙ (ap (λ (v : List Name). i.before ++ v) (sym n.first) ∙ i.names);
-      rows = rows_more m c.loop-node.rows.items c.push.new.self.items i.before r n.name c.in-Some.node i.rows
-          c.in-Ok.ensures.items (c.in_ok-row.ensures.path ∙ n.path) c.in_ok-row.ensures.node n.node;
-    }
-
-pub returns-in-Ok-sort_by-clause-ok : goal.returns-in-Ok-sort_by-clause-ok
-returns-in-Ok-sort_by-clause-ok g c =
-    let m : Image = g.T.Viewed.image c.args.image.now in
-    let i = c.loop-node.invariant in
-    let e : i.before ≡ names m.tree = sym (append-nil i.before)
-    ∙ (ap (λ (v : List Name). i.before ++ v) (sym c.in_default.ensures.given.before) ∙ i.names) in
-    let P : List Name → Type 0 = λ v. AreRows m c.loop-node.rows.items v in
-    holds_sorted m c.loop-node.rows.items c.sort_by.new.self.items (subst P e i.rows)
-    c.in-Ok-sort_by.ensures.permutation
-    (c.in-Ok-sort_by.ensures.sorted _ (ranks_by nat_list_cmp_total row_path)
-    (answers_always _ _ _ (λ f a r k called. search rules)))
+-- each comparison is by the same paths
+pub returns-in-Ok-clause-ok : goal.returns-in-Ok-clause-ok
+returns-in-Ok-clause-ok c =
+    let m : Image = any_view c.args.image.now in
+    let h = c.in_ok-directories.ensures.ok in
+    let P : List Directory → Type 0 = λ v. AreWays v h.ways in
+    let Q : Bor (List Directory) → Type 0 = λ v. AreWays v.now h.ways in
+    holds_sorted m c.in_ok-directories.field-0 _ h refl c.in-Ok.ensures.permutation
+    (c.in-Ok.ensures.sorted _ (ranks_by nat_list_cmp_total (row_path h.ways))
+    (answers_by _ _ (λ f. AreWays f.0.now h.ways)
+    (λ f a r k called i. (ap is_lt (called.met.1 h.ways i), subst Q (sym called.met.0) i))
+    _ (subst P (sym c.as_slice-places.ensures.value) h.directories)))
