@@ -31,3 +31,6 @@ mod Words
 mod Mapped
 mod Tabled
 mod Aligned
+mod Pathed
+mod Aligning
+mod Layered

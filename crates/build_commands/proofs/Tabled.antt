@@ -296,7 +296,7 @@ shown_next old new rest more f is put seen =
     ∙ ap (λ (xs : List NamedFile). old ++ shown_from (slice_get old (length old - 1)) xs) (sym is)
 
 -- one more file is looked at
-any_next : (p : NamedFile → Bool) (g : NamedFile → NamedFile) (old now : List NamedFile) (i : ℕ) (f : NamedFile)
+any_next : (p : NamedFile → Bool) (g : ℕ → NamedFile → NamedFile) (old now : List NamedFile) (i : ℕ) (f : NamedFile)
     → i < length now → f ≡ get_or now i f → Mapping g old now i
     → list_any p (take (i + 1) old) ≡ (list_any p (take i old) || p f)
 any_next p g old now i f l is m =
@@ -307,13 +307,13 @@ or_true : (a : Bool) → a || true ≡ true
 or_true true = refl
 or_true false = refl
 
-pub any_then : (p : NamedFile → Bool) (g : NamedFile → NamedFile) (old now : List NamedFile) (i : ℕ) (f : NamedFile)
+pub any_then : (p : NamedFile → Bool) (g : ℕ → NamedFile → NamedFile) (old now : List NamedFile) (i : ℕ) (f : NamedFile)
     → i < length now → f ≡ get_or now i f → Mapping g old now i → p f ≡ true → list_any p (take (i + 1) old) ≡ true
 any_then p g old now i f l is m e =
     any_next p g old now i f l is m ∙ ap (λ (b : Bool). list_any p (take i old) || b) e
     ∙ or_true (list_any p (take i old))
 
-pub any_else : (p : NamedFile → Bool) (g : NamedFile → NamedFile) (old now : List NamedFile) (i : ℕ) (f : NamedFile)
+pub any_else : (p : NamedFile → Bool) (g : ℕ → NamedFile → NamedFile) (old now : List NamedFile) (i : ℕ) (f : NamedFile)
     → i < length now → f ≡ get_or now i f → Mapping g old now i → p f ≡ false
     → list_any p (take (i + 1) old) ≡ list_any p (take i old)
 any_else p g old now i f l is m e =

@@ -1,6 +1,6 @@
--- The alignments of files with several names: each name has the largest one of them. (This
+-- The alignments of files; of one with several names each name has the largest one of them. (This
 -- project's own.)
-use Rattle.std.specs.Prelude.{ℕ, max, if◌then◌else◌, List, [], ◌∷◌, unwrap_or}
+use Rattle.std.specs.Prelude.{ℕ, max, if◌then◌else◌, List, [], ◌∷◌, map, unwrap_or}
 use Rattle.std.specs.BTreeMap.{BTreeMap, get}
 use Rattle.std.specs.Ordering.{nat_cmp, ordering_then}
 use Rattle.build_commands.specs.Inventory.{is_linked}
@@ -33,3 +33,13 @@ shared fs f =
 abbrev pub shared_by : BTreeMap (ℕ × ℕ) ℕ → NamedFile → NamedFile
 shared_by m f =
     if f.has_links then record f { align = aligned_at m f.inode.device f.inode.number } else f
+
+-- each file with the alignment of its index, if there is one
+abbrev pub aligned_each : List ℕ → List NamedFile → List NamedFile
+aligned_each [] fs = fs
+aligned_each (align ∷ aligns) [] = []
+aligned_each (align ∷ aligns) (f ∷ fs) = record f { align = align } ∷ aligned_each aligns fs
+
+-- and then each name of a file with the largest alignment of its names
+abbrev pub aligned_all : List ℕ → List NamedFile → List NamedFile
+aligned_all aligns fs = map (shared (aligned_each aligns fs)) (aligned_each aligns fs)

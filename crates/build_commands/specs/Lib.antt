@@ -28,3 +28,4 @@ pub mod Devices
 pub mod TableRow
 pub mod DeviceTable
 pub mod Alignments
+pub mod Laying

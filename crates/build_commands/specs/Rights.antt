@@ -38,6 +38,10 @@ concerns found f c = leads (file_at (string_bytes c.path) found) f
 abbrev pub with_attributes : Attributes → NamedFile → NamedFile
 with_attributes a f = record f { mode = unwrap_or a.mode f.mode; uid = a.uid; gid = a.gid }
 
+-- a file with another owner and group
+abbrev pub owned : ℕ → ℕ → NamedFile → NamedFile
+owned uid gid f = record f { uid = uid; gid = gid }
+
 -- one change after the other
 abbrev pub with_all : List Change → NamedFile → NamedFile
 with_all [] f = f

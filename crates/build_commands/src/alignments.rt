@@ -1,6 +1,8 @@
-//! The alignments of files with several names.
+//! The alignments of files.
 ghost use Rattle.std.specs.Prelude.{◌≡◌, ℕ, IfOk, OnErr, OnOk, map};
-ghost use Rattle.build_commands.specs.Alignments.{aligned_at, larger, largest, shared, shared_by};
+ghost use Rattle.build_commands.specs.Alignments.{aligned_all, aligned_at, aligned_each, larger};
+ghost use Rattle.build_commands.specs.Alignments.{largest, shared, shared_by};
+ghost use Rattle.build_commands.specs.Overlay.{AreInOrder};
 
 use crate::inventory::NamedFile;
 use rom_fields::OutOfMemory;
@@ -73,4 +75,33 @@ pub fn share_alignments(alloc: Global, found: &mut [NamedFile]) -> Result<(), Ou
     let largest = largest_of(alloc, found)?;
     share(&largest, found);
     Ok(())
+}
+
+/// Gives each file the alignment of its index, if there is one.
+fn align_each(found: &mut [NamedFile], aligns: &[u32])
+    ensures { found.new ≡ aligned_each aligns.now found.old }
+{
+    for index in 0..found.len() {
+        if let Some(align) = aligns.get(index) {
+            found[index].align = *align;
+        }
+    }
+}
+
+/// Gives files the alignments of their indices, in bytes. Then each name of a file with several
+/// links gets the largest alignment of its names. All paths stay.
+///
+/// # Errors
+///
+/// `OutOfMemory`.
+pub fn align_all(
+    alloc: Global,
+    found: &mut [NamedFile],
+    aligns: &[u32],
+) -> Result<(), OutOfMemory>
+    ensures aligned { OnOk result (found.new ≡ aligned_all aligns.now found.old) }
+    ensures order { AreInOrder found.old → AreInOrder found.new }
+{
+    align_each(found, aligns);
+    share_alignments(alloc, found)
 }

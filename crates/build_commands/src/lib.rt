@@ -97,6 +97,7 @@ mod fits;
 pub mod inventory;
 mod kept;
 pub mod laws;
+pub mod laying;
 mod limits;
 mod line;
 pub mod listing;

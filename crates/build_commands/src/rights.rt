@@ -7,7 +7,7 @@ ghost use Rattle.build_commands.specs.Inventory.{path_of};
 ghost use Rattle.build_commands.specs.Noting.{AreApplied, AreNoted, applied, are_equal, key_of};
 ghost use Rattle.build_commands.specs.Noting.{merged, noted};
 ghost use Rattle.build_commands.specs.Overlay.{AreInOrder};
-ghost use Rattle.build_commands.specs.Rights.{HasFile, IsRefusal, changed, file_at};
+ghost use Rattle.build_commands.specs.Rights.{HasFile, IsRefusal, changed, file_at, owned};
 
 use crate::inventory::NamedFile;
 use rom_fields::OutOfMemory;
@@ -130,6 +130,17 @@ fn notes_of(alloc: Global, found: &[NamedFile], changes: &[Change]) -> Result<No
     Ok(notes)
 }
 
+/// Sets the owner and the group of each file. All paths stay.
+pub fn own_all(found: &mut [NamedFile], uid: u32, gid: u32)
+    ensures owned { found.new ≡ map (owned uid gid) found.old }
+    ensures order { AreInOrder found.old → AreInOrder found.new }
+{
+    for index in 0..found.len() {
+        found[index].uid = uid;
+        found[index].gid = gid;
+    }
+}
+
 /// Gives a file the attributes that were noted for it, if there are some.
 fn apply(file: &mut NamedFile, attributes: Option<Attributes>)
     ensures { file.new ≡ applied attributes file.old }
@@ -166,6 +177,7 @@ pub fn set_all(
         → OnOk result (found.new ≡ map (changed found.old changes.now) found.old) }
     ensures there { AreInOrder found.old → OnOk result (All (HasFile found.old) changes.now) }
     ensures refused { AreInOrder found.old → IfErr result (IsRefusal found.old changes.now) }
+    ensures order { AreInOrder found.old → AreInOrder found.new }
     ensures unchanged { OnErr result (found.new ≡ found.old) }
 {
     let notes = notes_of(alloc, found, changes)?;

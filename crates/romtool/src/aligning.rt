@@ -2,7 +2,6 @@
 use crate::patterns::Patterns;
 use crate::stop::{Stop, named};
 use crate::watched::States;
-use build_commands::alignments::share_alignments;
 use build_commands::inventory::{FileKind, NamedFile, align_of};
 use elf_format::{HEAD_LEN, needs_pages};
 use system_files::{Identity, Refusal, elf_front};
@@ -58,43 +57,31 @@ fn looked_at(
     })
 }
 
-/// Sets the alignment of each regular file by its path and contents, and notes which are ELF files
-/// if these are noted.
-fn align_each(
-    rt: &HostRuntime,
-    rules: AlignRules<'_>,
-    found: &mut [NamedFile],
-    states: &mut States,
-) -> Result<(), Stop> {
-    for file in found {
-        if !matches!(file.kind, FileKind::Regular) {
-            continue;
-        }
-        let looked = looked_at(rt, rules, file, states.notes_programs());
-        let looked = named(rt.alloc(), &file.place, looked)?;
-        file.align = looked.align;
-        if looked.is_elf {
-            states.note_program(&file.place);
-        }
-    }
-    Ok(())
-}
-
-/// Sets the alignment of each regular file: that of the last pattern that matches its path;
-/// otherwise this one if the file is a program or a library that is executed in place. A file with
-/// several names has the largest alignment of these names. Notes which are ELF files, if these are
-/// noted.
+/// Returns the alignment of each file, in bytes: of a regular file that of the last pattern that
+/// matches its path; otherwise this one if the file is a program or a library that is executed in
+/// place. Notes which are ELF files, if these are noted.
 ///
 /// # Errors
 ///
 /// `Refused` for a file that cannot be read; `Memory`.
-pub fn align_all(
+pub fn alignments(
     rt: &HostRuntime,
     rules: AlignRules<'_>,
-    found: &mut [NamedFile],
+    found: &[NamedFile],
     states: &mut States,
-) -> Result<(), Stop> {
-    align_each(rt, rules, found, states)?;
-    share_alignments(rt.alloc(), found)?;
-    Ok(())
+) -> Result<Vec<u32>, Stop> {
+    let mut aligns = Vec::new(rt.alloc());
+    for file in found {
+        if !matches!(file.kind, FileKind::Regular) {
+            aligns.push(file.align)?;
+            continue;
+        }
+        let looked = looked_at(rt, rules, file, states.notes_programs());
+        let looked = named(rt.alloc(), &file.place, looked)?;
+        aligns.push(looked.align)?;
+        if looked.is_elf {
+            states.note_program(&file.place);
+        }
+    }
+    Ok(aligns)
 }

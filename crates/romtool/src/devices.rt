@@ -3,11 +3,10 @@
 use crate::explained;
 use crate::reporter::Reporter;
 use crate::stop::{Stop, unread};
-use build_commands::inventory::NamedFile;
-use build_commands::listing::{BadLine, ListError, Listing, Why};
-use build_commands::{device_table, devices, print_bad_manifest};
+use build_commands::listing::{BadLine, Why};
+use build_commands::print_bad_manifest;
 use program_streams::Held;
-use rom_commands::{Ending, Status};
+use rom_commands::Status;
 use rom_fields::Plain;
 use sentences::reasons::{
     DEVICE_EXISTS, DEVICE_NO_PARENT, DEVICE_NO_TEXT, DEVICE_WORD, MODE_LINE, NO_SUCH_FILE,
@@ -55,20 +54,6 @@ pub fn refuse(reporter: &Reporter<'_>, name: &str, text: &[u8], bad: BadLine) ->
     Status::Refused
 }
 
-/// Returns what a list says. If a line is refused, reports why.
-fn told(
-    reporter: &Reporter<'_>,
-    name: &str,
-    text: &[u8],
-    listed: Result<Listing, ListError>,
-) -> Result<Listing, Status> {
-    match listed {
-        Ok(listing) => Ok(listing),
-        Err(ListError::OutOfMemory) => Err(reporter.say(Ending::Memory)),
-        Err(ListError::Bad(bad)) => Err(refuse(reporter, name, text, bad)),
-    }
-}
-
 /// A regular file of this name that was read in this state.
 fn watched_of(rt: &HostRuntime, name: &str, state: Stamp) -> Result<Watched, AllocError> {
     Ok(Watched {
@@ -93,27 +78,4 @@ pub fn text_of_file(
         watched.push(watched_of(rt, name, state)?)?;
     }
     Ok(bytes)
-}
-
-/// Returns what the list of devices in the file of this name says, which has this text. The found
-/// files are in the order of their paths. If a line is refused, reports why.
-pub fn in_list(
-    reporter: &Reporter<'_>,
-    name: &str,
-    text: &[u8],
-    found: &[NamedFile],
-) -> Result<Listing, Status> {
-    let listed = devices::listed(reporter.rt.alloc(), text, found);
-    told(reporter, name, text, listed)
-}
-
-/// The same for a table of devices.
-pub fn in_table(
-    reporter: &Reporter<'_>,
-    name: &str,
-    text: &[u8],
-    found: &[NamedFile],
-) -> Result<Listing, Status> {
-    let listed = device_table::listed(reporter.rt.alloc(), text, found);
-    told(reporter, name, text, listed)
 }

@@ -1,7 +1,10 @@
 //! The manifest of directories as they are.
-use crate::aligning::{AlignRules, align_all};
+ghost use Rattle.std.specs.Prelude.{IfOk};
+ghost use Rattle.build_commands.specs.Overlay.{AreInOrder};
+
+use crate::aligning::{AlignRules, alignments};
 use crate::depfile;
-use crate::devices::{in_list, in_table, refuse, text_of_file};
+use crate::devices::{refuse, text_of_file};
 use crate::equal::share_equal;
 use crate::inventory::all_below;
 use crate::output::output;
@@ -13,14 +16,13 @@ use crate::watched::States;
 use crate::words::Words;
 use crate::written::files_written;
 use build_commands::Rule;
-use build_commands::alignments::share_alignments;
+use build_commands::alignments::{align_all, share_alignments};
 use build_commands::inventory::{FileKind, NamedFile, lines, put_found};
-use build_commands::listing::{BadLine, Listing, Why};
+use build_commands::laying::{LayError, lay_list, lay_table};
 use build_commands::overlay::{OverlayError, is_directory, laid_over};
-use build_commands::rights::{Attributes, Change, RightsError, file_at, set_all};
-use command_line::{Owner, ScanAll};
+use build_commands::rights::own_all;
+use command_line::ScanAll;
 use manifest::Entry;
-use manifest::error::BAD_TARGET;
 use rom_commands::Status;
 use rom_fields::{Failed, Plain};
 use sentences::reasons::{
@@ -36,7 +38,9 @@ use system_files::{
 const MOST_VOLUME: usize = 255;
 
 /// Lays files over one another. Refuses a file that cannot replace another one.
-fn laid(alloc: Global, found: Vec<NamedFile>) -> Result<Vec<NamedFile>, Stop> {
+fn laid(alloc: Global, found: Vec<NamedFile>) -> Result<Vec<NamedFile>, Stop>
+    ensures { IfOk result (λ v. AreInOrder v.items) }
+{
     match laid_over(alloc, found) {
         Ok(laid) => Ok(laid),
         Err(OverlayError::OutOfMemory) => Err(Stop::Memory),
@@ -54,128 +58,41 @@ fn check_faked(rt: &HostRuntime, directories: &[&str]) -> Result<(), Stop> {
     Ok(())
 }
 
-/// Sets the owner of all files, if one is given.
-fn own_all(found: &mut [NamedFile], owner: Option<Owner>) {
-    if let Some(owner) = owner {
-        for file in found {
-            file.uid = owner.uid;
-            file.gid = owner.gid;
-        }
+/// Reports why a list or a table in the file of this name, which has this text, is refused.
+fn unlaid(reporter: &Reporter<'_>, name: &str, text: &[u8], why: LayError) -> Stop {
+    match why {
+        LayError::OutOfMemory => Stop::Memory,
+        LayError::Bad(bad) => refuse(reporter, name, text, bad).into(),
+        LayError::Kinds(file) => failed(reporter.rt.alloc(), &file.place, KINDS_DIFFER),
     }
 }
 
-/// The change that a directory of a list makes, if the directory was found.
-fn change_by(alloc: Global, found: &[NamedFile], file: &NamedFile) -> Option<Change> {
-    let is_there = is_directory(file) && file_at(found, file.path()).is_some_and(is_directory);
-    if !is_there {
-        return None;
-    }
-    Some(Change {
-        line: file.inode.number,
-        path: String::from_str(alloc, &file.place).ok()?,
-        attributes: Attributes {
-            mode: Some(file.mode),
-            uid: file.uid,
-            gid: file.gid,
-        },
-    })
-}
-
-/// Adds the files of a list to those that were found, except directories that were found: of these,
-/// the attributes are to be set.
-fn add_listed(
-    alloc: Global,
-    found: &mut Vec<NamedFile>,
-    listed: Listing,
-) -> Result<Vec<Change>, AllocError> {
-    let Listing { files, mut changes } = listed;
-    let mut more = Vec::new(alloc);
-    for file in files {
-        match change_by(alloc, found, &file) {
-            Some(change) => changes.push(change)?,
-            None => more.push(file)?,
-        }
-    }
-    for file in more {
-        found.push(file)?;
-    }
-    Ok(changes)
-}
-
-/// Sets attributes of files, by the list in the file of this name.
-fn set_rights(
-    reporter: &Reporter<'_>,
-    name: &str,
-    found: &mut [NamedFile],
-    changes: &[Change],
-) -> Result<(), Stop> {
-    match set_all(reporter.rt.alloc(), found, changes) {
-        Ok(()) => Ok(()),
-        Err(RightsError::OutOfMemory) => Err(Stop::Memory),
-        Err(RightsError::Missing(line)) => {
-            let bad = BadLine {
-                line,
-                number: BAD_TARGET,
-                why: Why::Missing,
-            };
-            Err(refuse(reporter, name, b"", bad).into())
-        }
-    }
-}
-
-/// Sets the attributes that the table in the file of this name has for files that were found, and
-/// lays its own files over them.
-fn with_table(
-    reporter: &Reporter<'_>,
-    name: &str,
-    table: Listing,
-    mut found: Vec<NamedFile>,
-) -> Result<Vec<NamedFile>, Stop> {
-    let Listing { files, changes } = table;
-    set_rights(reporter, name, &mut found, &changes)?;
-    for file in files {
-        found.push(file)?;
-    }
-    laid(reporter.rt.alloc(), found)
-}
-
-/// Lays the files of the list in the file of this name over those that were found, and sets the
-/// attributes that it has for files, in the order of its lines.
-fn with_list(
-    reporter: &Reporter<'_>,
-    name: &str,
-    listed: Listing,
-    mut found: Vec<NamedFile>,
-) -> Result<Vec<NamedFile>, Stop> {
-    let alloc = reporter.rt.alloc();
-    let mut changes = add_listed(alloc, &mut found, listed)?;
-    changes.sort_by(|a: &Change, b: &Change| a.line.cmp(&b.line))?;
-    let mut found = laid(alloc, found)?;
-    set_rights(reporter, name, &mut found, &changes)?;
-    Ok(found)
-}
-
-/// Lays the files of the table of devices and of the list of devices over those that were found, if
-/// they are named.
+/// Lays what the table of devices says, and then what the list of devices says, over the files that
+/// were found, if they are named.
 fn with_devices(
     reporter: &Reporter<'_>,
     scan: &ScanAll<'_>,
     mut found: Vec<NamedFile>,
     watched: &mut Vec<Watched>,
-) -> Result<Vec<NamedFile>, Stop> {
+) -> Result<Vec<NamedFile>, Stop>
+    requires { AreInOrder found.items }
+{
+    let alloc = reporter.rt.alloc();
     if let Some(name) = scan.device_table {
         let text = text_of_file(reporter.rt, name, watched)?;
-        let table = in_table(reporter, name, &text, &found)?;
-        found = with_table(reporter, name, table, found)?;
+        found = match lay_table(alloc, found, &text) {
+            Ok(laid) => laid,
+            Err(why) => return Err(unlaid(reporter, name, &text, why)),
+        };
     }
-    match scan.devices {
-        Some(name) => {
-            let text = text_of_file(reporter.rt, name, watched)?;
-            let listed = in_list(reporter, name, &text, &found)?;
-            with_list(reporter, name, listed, found)
-        }
-        None => Ok(found),
+    if let Some(name) = scan.devices {
+        let text = text_of_file(reporter.rt, name, watched)?;
+        found = match lay_list(alloc, found, &text) {
+            Ok(laid) => laid,
+            Err(why) => return Err(unlaid(reporter, name, &text, why)),
+        };
     }
+    Ok(found)
 }
 
 /// What a scan found.
@@ -211,10 +128,13 @@ fn all_found(
     let directories = directories_of(rt, &found.files)?;
     let mut states = States::of(alloc, &found.files, &found.states, notes_programs)?;
     let mut found = laid(alloc, found.files)?;
-    own_all(&mut found, scan.owner);
+    if let Some(owner) = scan.owner {
+        own_all(&mut found, owner.uid, owner.gid);
+    }
     let (patterns, align) = (&patterns, scan.align);
     let rules = AlignRules { patterns, align };
-    align_all(rt, rules, &mut found, &mut states)?;
+    let aligns = alignments(rt, rules, &found, &mut states)?;
+    align_all(alloc, &mut found, &aligns)?;
     let mut watched = Vec::new(alloc);
     let mut files = with_devices(reporter, scan, found, &mut watched)?;
     if scan.dedupe {

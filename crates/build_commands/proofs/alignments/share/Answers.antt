@@ -8,7 +8,7 @@ pub loop-index-preserved : goal.loop-index-preserved
 loop-index-preserved c =
     let item = c.index-found-index.result in
     let same = item_is c.loop-index.found c.loop-index.index _ item (search rules) c.index-found-index.is in
-    mapping_more (shared_by c.args.largest.now) c.args.found.now c.loop-index.found _ c.loop-index.index item
+    mapping_more (λ j. shared_by c.args.largest.now) c.args.found.now c.loop-index.found _ c.loop-index.index item
     c.share_one.new.file (search rules) c.index-found-index.is refl
     (c.share_one.ensures ∙ ap (shared_by c.args.largest.now) same) c.loop-index.invariant
 

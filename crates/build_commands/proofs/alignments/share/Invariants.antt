@@ -3,4 +3,4 @@ use Rattle.build_commands.proofs.Mapped.{Mapping}
 use Rattle.build_commands.proofs.alignments.share.Given as goal
 
 abbrev pub invariant-loop-index : goal.invariant-loop-index
-invariant-loop-index l = Mapping (shared_by l.largest) l.fn.found l.found l.index
+invariant-loop-index l = Mapping (λ j. shared_by l.largest) l.fn.found l.found l.index

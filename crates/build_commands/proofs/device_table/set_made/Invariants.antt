@@ -7,6 +7,6 @@ use Rattle.build_commands.proofs.device_table.set_made.Given as goal
 
 abbrev pub invariant-loop-index : goal.invariant-loop-index
 invariant-loop-index l = record {
-  files : Mapping (set_below (row_view l.row)) l.fn.files l.files l.index;
+  files : Mapping (λ j. set_below (row_view l.row)) l.fn.files l.files l.index;
   there : l.is_there ≡ list_any (is_set_below l.row.path.now) (take l.index l.fn.files);
 }
