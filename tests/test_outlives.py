@@ -6,6 +6,7 @@ edits reach the prover, and the borrow checker comes before it.)
 """
 
 import os
+import re
 import shutil
 import subprocess
 import tempfile
@@ -14,14 +15,16 @@ import pytest
 from harness import TOP
 
 USED = ["rom_fields", "rom_faults", "rom_tree", "image_check", "open_files"]
-PROVED = "logic=proved"
-# The function's parameter, where its bytes come from, and what `rt ci` says of it.
+# of a proved crate, which an earlier run may have kept; and of the one that the borrow checker refuses
+PROVED = r"(?m)^rt: %s (proved$|is kept: )"
+REFUSED = r"(?m)^== %s$(?s:.*)error\[borrow-e0515\](?s:.*)^rt: FAILED: part_of_bytes_that_are_gone$"
+# The function's parameter, where its bytes come from, and what `rt ci` says of the crate.
 CRATES = {
     "part_of_bytes_that_stay": (", bytes: &'a [u8]", "", PROVED),
     "part_of_bytes_that_are_gone": (
         "",
         "    let gone = [0u8; 144];\n    let bytes = gone.as_slice();\n",
-        "error[borrow-e0515]",
+        REFUSED,
     ),
 }
 SOURCE = """//! A part of a file in an image.
@@ -85,18 +88,16 @@ def lay_out(top):
 
 
 @pytest.fixture(scope="session")
-def top():
-    """The repository. The proofs of its libraries are those that the gate kept on this machine."""
+def told():
+    """What `rt ci` prints of the repository. The proofs of the libraries are those that the gate kept on this machine."""
     with tempfile.TemporaryDirectory(prefix="romtool-") as folder:
         lay_out(folder)
-        yield folder
+        done = subprocess.run(["rt", "ci"], cwd=folder, capture_output=True, text=True)
+    return done.stdout + done.stderr
 
 
 @pytest.mark.needs("rt")
 @pytest.mark.parametrize("name", CRATES)
-def test_crate(top, name):
+def test_crate(told, name):
     """Proves a crate, or refuses it for the reason that is expected."""
-    said = CRATES[name][2]
-    done = subprocess.run(["rt", "ci", name], cwd=top, capture_output=True, text=True)
-    told = done.stdout + done.stderr
-    assert said in told and (done.returncode == 0) == (said == PROVED), "\n".join(told.splitlines()[-20:])
+    assert re.search(CRATES[name][2] % name, told), "\n".join(told.splitlines()[-20:])
