@@ -1,5 +1,5 @@
 -- Why files of a list cannot be laid over others.
-use Rattle.std.proofs.Common.{◌≡◌, ◌++◌, ℕ, List, Result, Ok, Err, inl, inr, refl, map, subst}
+use Rattle.std.proofs.Common.{◌++◌, ℕ, List, inl, inr, refl, map}
 use Rattle.build_commands.specs.Devices as list
 use Rattle.build_commands.specs.DeviceTable as table
 use Rattle.build_commands.specs.Laying.{AreByLine, IsListRefusal, IsTableRefusal, made, of_list, of_overlay}

@@ -26,5 +26,6 @@ all_keep [] f = refl
 all_keep (c ∷ cs) f = all_keep cs (with_attributes c.attributes f)
 
 -- the path of a file stays if its attributes are changed
-pub changed_keeps : (found : List NamedFile) (cs : List Change) (f : NamedFile) → path_of (changed found cs f) ≡ path_of f
+pub changed_keeps : (found : List NamedFile) (cs : List Change) (f : NamedFile)
+    → path_of (changed found cs f) ≡ path_of f
 changed_keeps found cs f = all_keep (filter (concerns found f) cs) f

@@ -94,11 +94,7 @@ fn align_each(found: &mut [NamedFile], aligns: &[u32])
 /// # Errors
 ///
 /// `OutOfMemory`.
-pub fn align_all(
-    alloc: Global,
-    found: &mut [NamedFile],
-    aligns: &[u32],
-) -> Result<(), OutOfMemory>
+pub fn align_all(alloc: Global, found: &mut [NamedFile], aligns: &[u32]) -> Result<(), OutOfMemory>
     ensures aligned { OnOk result (found.new ≡ aligned_all aligns.now found.old) }
     ensures order { AreInOrder found.old → AreInOrder found.new }
 {

@@ -1,5 +1,3 @@
-use Rattle.std.proofs.Common.{IfErr, Ok, Err, OnErr, OnOk, Result, subst, sym, ◌∙◌, ap, rules}
-use Rattle.build_commands.specs.Overlay.{AreInOrder}
 use Rattle.build_commands.proofs.Aligning.{either_in_order}
 use Rattle.build_commands.proofs.alignments.align_all.Goals as goal
 

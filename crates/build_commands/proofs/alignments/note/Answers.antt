@@ -1,4 +1,4 @@
-use Rattle.std.proofs.Common.{ℕ, ap, ap₂, ◌∙◌, max}
+use Rattle.std.proofs.Common.{ap, ap₂, ◌∙◌, max}
 use Rattle.std.specs.BTreeMap.{get}
 use Rattle.std.specs.Ordering.{nat_cmp, ordering_then}
 use Rattle.build_commands.specs.Alignments.{aligned_at}

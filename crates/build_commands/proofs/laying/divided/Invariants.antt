@@ -8,7 +8,8 @@ abbrev pub invariant-loop-file : goal.invariant-loop-file
 invariant-loop-file l = record {
   next : (goal.iterator-loop-file).can_next l.file-iterator;
   finite : (goal.iterator-loop-file).is_finite l.file-iterator;
-  made : AreInOrder l.found → l.made.items ++ made l.found l.file-iterator.rest.items ≡ made l.found l.fn.listed.files.items;
+  made : AreInOrder l.found
+      → l.made.items ++ made l.found l.file-iterator.rest.items ≡ made l.found l.fn.listed.files.items;
   settings : AreInOrder l.found
       → map setting_of l.changes.items ++ map setting_by (filter (sets l.found) l.file-iterator.rest.items)
       ≡ settings l.found l.fn.listed;

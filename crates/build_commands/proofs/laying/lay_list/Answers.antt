@@ -1,7 +1,7 @@
-use Rattle.std.proofs.Common.{◌++◌, List, subst, sym, rules}
+use Rattle.std.proofs.Common.{◌++◌, List, subst, sym}
 use Rattle.rom_tree.proofs.Answered.{err_by}
 use Rattle.build_commands.specs.Devices.{IsListed}
-use Rattle.build_commands.specs.Laying.{AreByLine, IsListRefusal, made}
+use Rattle.build_commands.specs.Laying.{IsListRefusal}
 use Rattle.build_commands.specs.Overlay.{AreInOrder, AreLaid, IsRefused}
 use Rattle.build_commands.specs.declared.inventory.NamedFile.{NamedFile}
 use Rattle.build_commands.proofs.Layered.{list_missing, list_mixed}

@@ -36,6 +36,7 @@ returns-clause-laid c =
     record {
       listing = c.in_ok-files.field-0;
       says = rw c.deref.ensures.value at (c.in_ok-files.ensures.listed o);
-      over = subst (λ (fs : List NamedFile). AreLaid (fs ++ c.in_ok-files.field-0.files.items) c.in_ok-laid_with.field-0.items)
+      over = subst
+          (λ (fs : List NamedFile). AreLaid (fs ++ c.in_ok-files.field-0.files.items) c.in_ok-laid_with.field-0.items)
           (rw c.deref-2.ensures.value at c.in_ok-set.ensures.set) c.in_ok-laid_with.ensures.laid;
     }
