@@ -34,3 +34,4 @@ mod Aligned
 mod Pathed
 mod Aligning
 mod Layered
+mod Spots

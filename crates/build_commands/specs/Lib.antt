@@ -29,3 +29,4 @@ pub mod TableRow
 pub mod DeviceTable
 pub mod Alignments
 pub mod Laying
+pub mod Programs

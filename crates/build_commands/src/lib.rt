@@ -32,8 +32,14 @@
 //!   files.
 //! - `device_table::listed`: the same of a table of `makedevs`: what its rows make and set, one
 //!   after the other, beside the found files, and the last file of each path.
-//! - `alignments::share_alignments`: each name of a file with several links gets the largest
-//!   alignment of its names, and nothing else changes.
+//! - `laying::{lay_list, lay_table}`: what a list and a table make of the found files: its files
+//!   are laid over them, and attributes are set in the order of its lines; a directory that was
+//!   found is not replaced. All files are in the order of their paths, before and after.
+//! - `alignments::align_all`, `rights::own_all`: each file gets its alignment, and each name of a
+//!   file with several links the largest of its names; each gets an owner; nothing else changes.
+//! - `programs::{spots_of, programs_of}`: where the contents of each source are in a planned image,
+//!   and whether the next data are in their last page; the programs, their pages and those that are
+//!   not executed in place, by the verdicts on the sources.
 //! - `print_unfit`, `changes::count_changes`: the line of a strict scan, and the numbers in it.
 //! - `build_file`, `build_over`, `most_bytes`: if a build is `Ok`: its text is a manifest, OUT was
 //!   replaced by the image of the manifest's plan in FORMAT, with the contents that the opener's
@@ -106,6 +112,7 @@ pub mod overlay;
 mod part;
 mod planned;
 mod printing;
+pub mod programs;
 pub mod rights;
 mod rule;
 mod rule_name;

@@ -12,7 +12,7 @@ ghost use Rattle.plan_types.specs.Plans.{IsPlanOf};
 use crate::asked::Asked;
 use crate::contents::Shares;
 use crate::files::{Files, INPUT, Kept, kept_names, kept_states, not_taken};
-use crate::in_place::{Programs, Unknown, programs_of};
+use crate::in_place::{Unknown, programs_planned};
 use crate::origin::Origin;
 use crate::output::{coloured_lines, lines};
 use crate::placing::{self, FillError, KeptWith};
@@ -23,6 +23,7 @@ use crate::stop::{Line, Stop, changed, refused, unopened, unread};
 use crate::unchanged::{Late, Unchanged};
 use crate::words::Words;
 use crate::{contents, depfile, explained, warned};
+use build_commands::programs::Programs;
 use build_commands::{
     Ended, Fate, Foreseen, Job, Misread, Rule, Tools, Unbuilt, Wanted, Warnings, foreseen,
     most_bytes, print_strict, print_xip,
@@ -379,7 +380,7 @@ fn programs_in(
     if !asked.wanted.xip && !is_told {
         return Ok(None);
     }
-    match programs_of(rt, plan, files.origin, files.names, files.stamps) {
+    match programs_planned(rt, plan, files.origin, files.names, files.stamps) {
         Ok(programs) => Ok(Some(programs)),
         Err(Unknown::Memory) => Err(Stop::Memory),
         Err(Unknown::Source(file, e)) => Err(files.fault(rt, file, Some(e))),

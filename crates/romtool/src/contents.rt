@@ -1,10 +1,10 @@
 //! The table of what an image has in it, for people.
 use crate::asked::Asked;
 use crate::building::Built;
-use crate::in_place::{Programs, Unplaced};
 use crate::reporter::Reporter;
 use crate::warned::reason_sentence;
 use build_commands::most_bytes;
+use build_commands::programs::{Programs, Unplaced};
 use manifest::{Line, Manifest, Word};
 use plan_types::{Body, Plan};
 use sentences::words::{escaped, shown};

@@ -2,9 +2,9 @@
 ghost use Rattle.std.specs.Prelude.{◌≡◌, length};
 ghost use Rattle.manifest.specs.Lines.{sources_of};
 
-use crate::in_place::Unplaced;
 use crate::origin::Origin;
 use crate::reporter::Reporter;
+use build_commands::programs::Unplaced;
 use build_commands::{Warning, Warnings, last_blocks, warning_name};
 use manifest::Line;
 use program_report::Reason;
