@@ -7,7 +7,7 @@ ghost use Rattle.manifest.specs.Texts.{pieces, pieces_after};
 ghost use Rattle.manifest.specs.Grammar.{is_skipped};
 ghost use Rattle.build_commands.specs.Devices as devices;
 ghost use Rattle.build_commands.specs.Devices.{IsListed, IsRefusal, front_of, made, makes_file};
-ghost use Rattle.build_commands.specs.Devices.{word_of};
+ghost use Rattle.build_commands.specs.Devices.{nod_line, nod_lines, word_of};
 ghost use Rattle.build_commands.specs.Overlay.{AreInOrder};
 ghost use Rattle.build_commands.specs.Lists.{Gives, IsNew, line_of, said, setting_of};
 
@@ -209,6 +209,33 @@ fn read_list(alloc: Global, text: &[u8]) -> Result<Listing, ListError>
         rest = more;
     }
     Ok(listing)
+}
+
+/// The words PATH, TYPE, MAJOR, MINOR and MODE of a device.
+pub type DeviceWords<'a> = (&'a str, &'a str, &'a str, &'a str, &'a str);
+
+/// Adds the line of a list that makes a device of these words.
+fn add_nod(text: &mut Vec<u8>, words: &DeviceWords<'_>) -> Result<(), OutOfMemory>
+    ensures { IfOk result (λ _. text.new.items ≡ text.old.items ++ nod_line words.now) }
+{
+    let (path, kind, major, minor, mode) = *words;
+    for part in [
+        "nod ", path, " ", mode, " 0 0 ", kind, " ", major, " ", minor, "\n",
+    ] {
+        text.extend_from_slice(part.as_bytes())?;
+    }
+    Ok(())
+}
+
+/// Returns the text of a list of these devices.
+pub fn text_of(alloc: Global, devices: &[DeviceWords<'_>]) -> Result<Vec<u8>, OutOfMemory>
+    ensures { IfOk result (λ v. v.items ≡ nod_lines devices.now) }
+{
+    let mut text = Vec::new(alloc);
+    for words in devices {
+        add_nod(&mut text, words)?;
+    }
+    Ok(text)
 }
 
 /// Returns what the lines of a list say, its files sorted by their paths. The found files are in

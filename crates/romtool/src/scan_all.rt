@@ -12,12 +12,12 @@ use crate::unfit::Unfit;
 use crate::watched::States;
 use crate::words::Words;
 use crate::written::files_written;
-use build_commands::Rule;
 use build_commands::alignments::share_alignments;
 use build_commands::inventory::{FileKind, NamedFile, lines, put_found};
 use build_commands::listing::{BadLine, Listing, Why};
 use build_commands::overlay::{OverlayError, is_directory, laid_over};
 use build_commands::rights::{Attributes, Change, RightsError, file_at, set_all};
+use build_commands::{Rule, devices};
 use command_line::{Owner, ScanAll};
 use manifest::Entry;
 use manifest::error::BAD_TARGET;
@@ -31,6 +31,9 @@ use system_files::{
     Identity, KeepError, Outputs, Reason, Target, Watched, current_directory, identity_of,
     is_unfaked, reading,
 };
+
+/// The place of a refused device that was given by itself.
+const DEVICE: &str = "--device";
 
 /// The most bytes of a volume's name.
 const MOST_VOLUME: usize = 255;
@@ -155,8 +158,8 @@ fn with_list(
     Ok(found)
 }
 
-/// Lays the files of the table of devices and of the list of devices over those that were found, if
-/// they are named.
+/// Lays the files of the table of devices, of the list of devices and of devices that are given one
+/// by one over those that were found.
 fn with_devices(
     reporter: &Reporter<'_>,
     scan: &ScanAll<'_>,
@@ -168,14 +171,17 @@ fn with_devices(
         let table = in_table(reporter, name, &text, &found)?;
         found = with_table(reporter, name, table, found)?;
     }
-    match scan.devices {
-        Some(name) => {
-            let text = text_of_file(reporter.rt, name, watched)?;
-            let listed = in_list(reporter, name, &text, &found)?;
-            with_list(reporter, name, listed, found)
-        }
-        None => Ok(found),
+    if let Some(name) = scan.devices {
+        let text = text_of_file(reporter.rt, name, watched)?;
+        let listed = in_list(reporter, name, &text, &found)?;
+        found = with_list(reporter, name, listed, found)?;
     }
+    if scan.added.is_empty() {
+        return Ok(found);
+    }
+    let text = devices::text_of(reporter.rt.alloc(), &scan.added)?;
+    let listed = in_list(reporter, DEVICE, &text, &found)?;
+    with_list(reporter, DEVICE, listed, found)
 }
 
 /// What a scan found.
