@@ -31,3 +31,4 @@ mod Words
 mod Mapped
 mod Tabled
 mod Aligned
+mod Added

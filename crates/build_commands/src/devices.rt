@@ -214,17 +214,12 @@ fn read_list(alloc: Global, text: &[u8]) -> Result<Listing, ListError>
 /// The words PATH, TYPE, MAJOR, MINOR and MODE of a device.
 pub type DeviceWords<'a> = (&'a str, &'a str, &'a str, &'a str, &'a str);
 
-/// Adds the line of a list that makes a device of these words.
-fn add_nod(text: &mut Vec<u8>, words: &DeviceWords<'_>) -> Result<(), OutOfMemory>
-    ensures { IfOk result (λ _. text.new.items ≡ text.old.items ++ nod_line words.now) }
+/// The line of a list that makes a device of these words, with its line feed.
+fn nod_line(alloc: Global, words: &DeviceWords<'_>) -> Result<String, OutOfMemory>
+    ensures { IfOk result (λ s. string_bytes s ≡ nod_line words.now) }
 {
     let (path, kind, major, minor, mode) = *words;
-    for part in [
-        "nod ", path, " ", mode, " 0 0 ", kind, " ", major, " ", minor, "\n",
-    ] {
-        text.extend_from_slice(part.as_bytes())?;
-    }
-    Ok(())
+    Ok(format!(in alloc; "nod {path} {mode} 0 0 {kind} {major} {minor}\n")?)
 }
 
 /// Returns the text of a list of these devices.
@@ -233,7 +228,7 @@ pub fn text_of(alloc: Global, devices: &[DeviceWords<'_>]) -> Result<Vec<u8>, Ou
 {
     let mut text = Vec::new(alloc);
     for words in devices {
-        add_nod(&mut text, words)?;
+        text.extend_from_slice(nod_line(alloc, words)?.as_bytes())?;
     }
     Ok(text)
 }
