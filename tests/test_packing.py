@@ -65,7 +65,8 @@ BAD_DEVICES = {
 # what is wrong in an option `--device`, behind that of /dev/null
 BAD_OPTIONS = {
     "usage": [
-        "/x c 1 1", "/x c 1 1 0600 0", "/x  c 1 0600", " c 1 1 0600", "/x c 1 1 ", "/x c 1 1 0600 ", "/x c 1 1 0600\n", "/x\tc 1 1 0600", "",
+        "/x c 1 1", "/x c 1 1 0600 0", "/x  c 1 0600", " c 1 1 0600", "/x c 1 1 ", "/x c 1 1 0600 ", "/x c 1 1 0600\n", "/x\tc 1 1 0600",
+        "",
     ],
     "manifest 2 1 BadWord": ["/x q 1 1 0600", "/x C 1 1 0600", "/x p 1 1 0600"],
     "manifest 2 2 BadNumber": ["/x c 1 1 600", "/x c 01 1 0600", "/x b 1 4294967296 0600"],

@@ -20,7 +20,8 @@ regrouped p a m b k c j d n e =
 pushed : (ds : List DeviceWords) (d : DeviceWords) → nod_lines (ds ++ d ∷ []) ≡ nod_lines ds ++ nod_line d
 pushed [] d = append-nil (nod_line d)
 pushed (e ∷ ds) d =
-    ap (λ (rest : List ℕ). nod_line e ++ rest) (pushed ds d) ∙ sym (append_assoc (nod_line e) (nod_lines ds) (nod_line d))
+    ap (λ (rest : List ℕ). nod_line e ++ rest) (pushed ds d)
+    ∙ sym (append_assoc (nod_line e) (nod_lines ds) (nod_line d))
 
 pub one_more : (ds : List DeviceWords) (i : ℕ) (d : DeviceWords) → i < length ds
     → nod_lines (take (i + 1) ds) ≡ nod_lines (take i ds) ++ nod_line (get_or ds i d)

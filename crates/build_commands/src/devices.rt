@@ -222,8 +222,8 @@ fn nod_line(alloc: Global, words: &DeviceWords<'_>) -> Result<String, OutOfMemor
     Ok(format!(in alloc; "nod {path} {mode} 0 0 {kind} {major} {minor}\n")?)
 }
 
-/// Returns the text of a list of these devices.
-pub fn text_of(alloc: Global, devices: &[DeviceWords<'_>]) -> Result<Vec<u8>, OutOfMemory>
+/// Returns the text of a list that makes these devices.
+pub fn list_for(alloc: Global, devices: &[DeviceWords<'_>]) -> Result<Vec<u8>, OutOfMemory>
     ensures { IfOk result (λ v. v.items ≡ nod_lines devices.now) }
 {
     let mut text = Vec::new(alloc);

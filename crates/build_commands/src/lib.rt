@@ -30,7 +30,7 @@
 //!   each of which is a line of a manifest or one of `mode`. The first line that is refused by
 //!   itself is named; if there is none, the first whose file does not fit the others or the found
 //!   files.
-//! - `devices::text_of`: the text of the list that makes the given devices, a line for each.
+//! - `devices::list_for`: the text of the list that makes the given devices, a line for each.
 //! - `device_table::listed`: the same of a table of `makedevs`: what its rows make and set, one
 //!   after the other, beside the found files, and the last file of each path.
 //! - `alignments::share_alignments`: each name of a file with several links gets the largest

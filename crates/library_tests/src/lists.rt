@@ -72,7 +72,7 @@ fn list_of_given_devices(rt: HostRuntime) -> Result<(), Fail> {
         ("/console", "c", "5", "1", "0600"),
         ("/sda", "b", "8", "0", "0660"),
     ];
-    let text = devices::text_of(alloc, &given).unwrap_or(Vec::new(alloc));
+    let text = devices::list_for(alloc, &given).unwrap_or(Vec::new(alloc));
     let lines = b"nod /console 0600 0 0 c 5 1\nnod /sda 0660 0 0 b 8 0\n";
     assert!(rt; text.as_slice() == lines.as_slice());
     Ok(())

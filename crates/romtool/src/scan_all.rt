@@ -179,7 +179,7 @@ fn with_devices(
     if scan.added.is_empty() {
         return Ok(found);
     }
-    let text = devices::text_of(reporter.rt.alloc(), &scan.added)?;
+    let text = devices::list_for(reporter.rt.alloc(), &scan.added)?;
     let listed = in_list(reporter, DEVICE, &text, &found)?;
     with_list(reporter, DEVICE, listed, found)
 }

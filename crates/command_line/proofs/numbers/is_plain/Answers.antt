@@ -1,4 +1,4 @@
-use Rattle.std.proofs.Common.{rules, ◌≡◌, ◌∙◌, List, ℕ, subst, ap}
+use Rattle.std.proofs.Common.{rules, ◌∙◌, ap}
 use Rattle.command_line.specs.Numbers.{is_plain}
 use Rattle.command_line.proofs.Plain.{plain}
 use Rattle.command_line.proofs.numbers.is_plain.Goals as goal

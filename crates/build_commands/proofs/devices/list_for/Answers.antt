@@ -2,7 +2,7 @@ use Rattle.std.proofs.Common.{◌∙◌, ap, sym, ◌++◌, List, ℕ, take}
 use Rattle.std.proofs.lemmas.List.{take_all}
 use Rattle.build_commands.specs.Devices.{nod_lines}
 use Rattle.build_commands.proofs.Added.{one_more}
-use Rattle.build_commands.proofs.devices.text_of.Goals as goal
+use Rattle.build_commands.proofs.devices.list_for.Goals as goal
 
 pub loop-words-preserved : goal.loop-words-preserved
 loop-words-preserved c =
