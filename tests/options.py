@@ -38,14 +38,15 @@ CASES = {
     },
     "pack": {
         "--align": PACK, "--owner": PACK, "--all-root": "test_packing.py::test_owners", "--exclude": PACK, "--volume": PACK,
-        "--devices": PACK, "--device-table": PACK, "--dedupe": PACK, "--strict": PACK, "--xip": PACK, "--max-size": PACK, "--size": PACK,
-        "--one-file-system": "test_edge_scan.py::test_packed_on_one_file_system", "--fill": PACK, "--depfile": PACK, "--manifest": PACK,
-        "--quiet": PACK, "--explain": "test_pack.py::test_words_in_quiet",
+        "--devices": PACK, "--device-table": PACK, "--device": PACK, "--dedupe": PACK, "--strict": PACK, "--xip": PACK,
+        "--one-file-system": "test_edge_scan.py::test_packed_on_one_file_system", "--max-size": PACK, "--size": PACK, "--fill": PACK,
+        "--depfile": PACK, "--manifest": PACK, "--quiet": PACK, "--explain": "test_pack.py::test_words_in_quiet",
     },
     "scan": {
         "--all": SCAN, "--for": SCAN, "--align": SCAN, "--owner": SCAN, "--all-root": "test_packing.py::test_owners", "--exclude": SCAN,
-        "--volume": SCAN, "--devices": SCAN, "--device-table": SCAN, "--dedupe": SCAN, "--output": SCAN, "--depfile": SCAN,
-        "--one-file-system": "test_edge_scan.py::test_on_one_file_system[scan]", "--strict": SCAN, "--explain": "scan/scan-a-file",
+        "--volume": SCAN, "--devices": SCAN, "--device-table": SCAN, "--device": SCAN, "--dedupe": SCAN, "--output": SCAN,
+        "--depfile": SCAN, "--one-file-system": "test_edge_scan.py::test_on_one_file_system[scan]", "--strict": SCAN,
+        "--explain": "scan/scan-a-file",
     },
     "extract": {
         "--align": "options/alignment-of-an-extracted-program", "--owners": "test_extract.py::test_owners[words0-1-4095]",

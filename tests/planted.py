@@ -216,6 +216,8 @@ ERRORS = {
         ("scan --all *--devices*", "sed -i 's/4 NoParent/5 Exists/' $err"),
         ("scan --all *--devices*", "sed -i '/^sock/d' $out"),
         ("scan --all *--devices*", "sed -i 's/ 4750 / 0750 /' $out"),
+        ("scan --all *--device *", "sed -i 's/^nod \\(.*\\) b 8 1$/nod \\1 b 1 8/' $out"),
+        ("scan --all *--device *", "sed -i 's/4 NoParent/5 Exists/' $err"),
         ("scan --all *--device-table*", "sed -i 's/2 BadNumber/1 BadWord/' $err"),
         ("scan --all *--device-table*", "sed -i 's/hda3/hda2/' $out"),
         ("scan --all *--device-table*", "sed -i 's/^slink \\(.*\\) 0 0 a/slink \\1 9 9 a/' $out"),

@@ -62,6 +62,18 @@ BAD_DEVICES = {
     "4 NoParent": ["nod /x/y 0600 0 0 c 1 1", "nod /dev/null/y 0600 0 0 c 1 1", "pipe /two/x 0600 0 0"],
     "5 Exists": ["dir /dev/null 0755 0 0", "pipe /dev 0600 0 0"],
 }  # fmt: skip
+# what is wrong in an option `--device`, behind that of /dev/null
+BAD_OPTIONS = {
+    "usage": [
+        "/x c 1 1", "/x c 1 1 0600 0", "/x  c 1 0600", " c 1 1 0600", "/x c 1 1 ", "/x c 1 1 0600 ", "/x c 1 1 0600\n", "/x\tc 1 1 0600",
+        "",
+    ],
+    "manifest 2 1 BadWord": ["/x q 1 1 0600", "/x C 1 1 0600", "/x p 1 1 0600"],
+    "manifest 2 2 BadNumber": ["/x c 1 1 600", "/x c 01 1 0600", "/x b 1 4294967296 0600"],
+    "manifest 2 3 BadPath": ["x c 1 1 0600", "/ c 1 1 0600", "/%FF c 1 1 0600"],
+    "manifest 2 4 NoParent": ["/x/y c 1 1 0600", "/dev/null/y c 1 1 0600"],
+    "manifest 2 5 Exists": ["/dev/null b 1 1 0600", "/dev c 1 1 0600"],
+}  # fmt: skip
 BAD_ROWS = {
     "1 BadWord": ["/x q 644 0 0", "/x", "/x c", "/x p 600 0 0 1 1 1 1 1 1", "|xattr cap_net_raw+ep"],
     "2 BadNumber": [
@@ -229,6 +241,20 @@ def test_refused(romtool, tree, words):
     assert contents() == before
 
 
+def test_devices_in_options(romtool, tree):
+    """Lays the devices of `--device` over those of a list, which are laid over those of a table; their owners are root's."""
+    words = "--owner 9:9 --devices devices table"
+    lines = [it.replace("pipe /dev/p 0600 0 0", "nod /dev/p 0640 0 0 b 8 1") for it in PRINTED[words]]
+    lines.insert(lines.index("nod /tmp/A 0600 0 0 b 8 1"), "nod /tmp/%20 0600 0 0 c 255 255")
+    put("pipe-rows", b"/dev/p p 600 1 1\n/dev/s p 600 1 1\n")
+    words = ["--device", "/tmp/%20 c 255 255 0600", "--device-table", "pipe-rows", "--device=/dev/p b 8 1 0640", *words.split(" ")]
+    assert romtool("scan", "--all", *words) == prints(*lines)
+    assert romtool("pack", "--quiet", "--manifest", "kept", *words[:-1], "cramfs", words[-1], "image")[1:] == (b"", 0)
+    assert text_of("kept").splitlines() == lines
+    shown = [it.split(" ", 1)[1] for it in romtool.line("list image")[0].decode().splitlines()]
+    assert {"b 0640 0 0 0 8 1 /dev/p", "c 0600 0 0 0 255 255 /tmp/%20"} <= set(shown)
+
+
 def rows(told):
     """Returns the parameters of a test of bad lines: each line, and what is wrong in it."""
     found = [pytest.param(row, wrong, id=row[:30]) for wrong, rows_of in told.items() for row in rows_of]
@@ -241,6 +267,14 @@ def test_bad_devices(romtool, tree, row, wrong):
     more = "also bad\n" if wrong < "4" else ""  # all lines are read before their paths are looked up
     put("bad", f"dir /one 0755 0 0\npipe /two 0600 0 0\n{row}\n{more}".encode())
     assert romtool.line("scan --all --devices bad table") == refuses(f"manifest 3 {wrong}")
+
+
+@rows(BAD_OPTIONS)
+def test_bad_options(romtool, tree, row, wrong):
+    """Refuses words that are no device as usage, before anything is scanned, and otherwise names the option by its number."""
+    words = "scan", "--all", "--device", "/dev/null c 1 3 0666", "--device", row
+    assert romtool(*words, "table") == refuses(wrong)
+    assert romtool(*words, "missing") == refuses("usage" if wrong == "usage" else "file missing")
 
 
 @rows(BAD_ROWS)
@@ -421,8 +455,9 @@ def rule():
 
 
 def test_rule_of_scan(romtool, tree):
-    """Names in the rule of `--depfile` what is scanned, and the file of devices."""
-    assert romtool.line("scan --all --all-root --devices folder-list -o out --depfile rule modes") == prints()
+    """Names in the rule of `--depfile` what is scanned, and the file of devices, but no device of an option."""
+    words = "scan --all --all-root --devices folder-list -o out --depfile rule modes --device"
+    assert romtool(*words.split(" "), "/new/x c 1 1 0600") == prints()
     assert rule() == ["out:", "modes/b", "modes/bin/a", "folder-list", "modes", "modes/bin"]
 
 

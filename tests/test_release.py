@@ -553,7 +553,7 @@ def test_stranger(debian, prefix):
     """Has an ordinary user run romtool-static in the root of the packages, on a directory of his own, by the README's first two commands.
     With root's rights nothing of this system is there: no other program, no library, no devices."""
     work, static = debian + "/work", prefix + "/bin/romtool-static"
-    write_below(work, {"app/bin/init": "#!/bin/sh\n", "devices": "nod /dev/console 0600 0 0 c 5 1\n"})
+    write_below(work, {"app/bin/init": "#!/bin/sh\n"})
     os.mkdir(work + "/app/dev")
     places = [work, work + "/app", work + "/app/bin", work + "/app/dev", work + "/app/bin/init"]
     for at in (debian, *places):

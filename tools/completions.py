@@ -18,8 +18,8 @@ PROGRAM = f"{TOP}/crates/romtool/out/romtool"
 KINDS = {
     "IMAGE": "files", "MANIFEST": "files", "OUT": "files", "DUMP": "files", "FILE": "files", "A": "files", "B": "files",
     "DIR": "directories", "DIR.. OUT": "files", "PATH": "nothing", "HEX": "nothing", "ADDRESS": "nothing", "N": "nothing",
-    "NAME": "nothing", "BYTE": "nothing", "GLOB": "nothing", "UID:GID": "nothing", "FORMAT": "formats/src/format.rt named",
-    "[GLOB=]N": "command_line/src/numbers.rt align_named",
+    "NAME": "nothing", "BYTE": "nothing", "GLOB": "nothing", "UID:GID": "nothing", "DEVICE": "nothing",
+    "FORMAT": "formats/src/format.rt named", "[GLOB=]N": "command_line/src/numbers.rt align_named",
 }  # fmt: skip
 
 

@@ -31,6 +31,7 @@ mod Words
 mod Mapped
 mod Tabled
 mod Aligned
+mod Added
 mod Pathed
 mod Aligning
 mod Layered

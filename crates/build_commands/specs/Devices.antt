@@ -2,6 +2,7 @@
 -- file without contents, and `mode PATH MODE UID GID`, which sets attributes. (This project's own.)
 use Rattle.std.specs.Prelude.{◌≡◌, ◌⊎◌, ⊤, ℕ, ◌+◌, ◌||◌, ◌&&◌, Bool, true, false, if◌then◌else◌}
 use Rattle.std.specs.Prelude.{List, [], ◌∷◌, ◌++◌, codes, drop, map, Some, None, Result, Ok, Err}
+use Rattle.std.specs.Borrow.{Bor}
 use Rattle.std.specs.List.{All}
 use Rattle.std.specs.Str.{bytes_eq, is_utf8}
 use Rattle.manifest.specs.Alone.{line_alone}
@@ -129,6 +130,22 @@ read_lines s n (l ∷ ls) =
 -- what the lines of a text say, or the first that is refused by itself
 unfoldable pub list_of : List ℕ → Result Said BadLine
 list_of text = read_lines nothing_said 1 (pieces 10 text)
+
+-- the words PATH, TYPE, MAJOR, MINOR and MODE of a device
+abbrev pub DeviceWords : Type 0
+DeviceWords =
+    Bor (List ℕ) × Bor (List ℕ) × Bor (List ℕ) × Bor (List ℕ) × Bor (List ℕ)
+
+-- their line
+abbrev pub nod_line : DeviceWords → List ℕ
+nod_line (path, kind, major, minor, mode) =
+    codes "nod " ++ path.now ++ codes " " ++ mode.now ++ codes " 0 0 " ++ kind.now ++ codes " "
+    ++ major.now ++ codes " " ++ minor.now ++ codes "\n"
+
+-- the lines of several devices
+abbrev pub nod_lines : List DeviceWords → List ℕ
+nod_lines [] = []
+nod_lines (d ∷ ds) = nod_line d ++ nod_lines ds
 
 -- these files are those of the lines of a text, sorted by their paths; the changes are its settings
 pub record AreOf (text : List ℕ) (said : Said) (l : Listing) : Type 0 where

@@ -7,7 +7,7 @@ ghost use Rattle.manifest.specs.Texts.{pieces, pieces_after};
 ghost use Rattle.manifest.specs.Grammar.{is_skipped};
 ghost use Rattle.build_commands.specs.Devices as devices;
 ghost use Rattle.build_commands.specs.Devices.{IsListed, IsRefusal, front_of, made, makes_file};
-ghost use Rattle.build_commands.specs.Devices.{word_of};
+ghost use Rattle.build_commands.specs.Devices.{nod_line, nod_lines, word_of};
 ghost use Rattle.build_commands.specs.Overlay.{AreInOrder};
 ghost use Rattle.build_commands.specs.Lists.{Gives, IsNew, line_of, said, setting_of};
 
@@ -209,6 +209,28 @@ fn read_list(alloc: Global, text: &[u8]) -> Result<Listing, ListError>
         rest = more;
     }
     Ok(listing)
+}
+
+/// The words PATH, TYPE, MAJOR, MINOR and MODE of a device.
+pub type DeviceWords<'a> = (&'a str, &'a str, &'a str, &'a str, &'a str);
+
+/// The line of a list that makes a device of these words, with its line feed.
+fn nod_line(alloc: Global, words: &DeviceWords<'_>) -> Result<String, OutOfMemory>
+    ensures { IfOk result (λ s. string_bytes s ≡ nod_line words.now) }
+{
+    let (path, kind, major, minor, mode) = *words;
+    Ok(format!(in alloc; "nod {path} {mode} 0 0 {kind} {major} {minor}\n")?)
+}
+
+/// Returns the text of a list that makes these devices.
+pub fn list_for(alloc: Global, devices: &[DeviceWords<'_>]) -> Result<Vec<u8>, OutOfMemory>
+    ensures { IfOk result (λ v. v.items ≡ nod_lines devices.now) }
+{
+    let mut text = Vec::new(alloc);
+    for words in devices {
+        text.extend_from_slice(nod_line(alloc, words)?.as_bytes())?;
+    }
+    Ok(text)
 }
 
 /// Returns what the lines of a list say, its files sorted by their paths. The found files are in

@@ -30,6 +30,7 @@
 //!   each of which is a line of a manifest or one of `mode`. The first line that is refused by
 //!   itself is named; if there is none, the first whose file does not fit the others or the found
 //!   files.
+//! - `devices::list_for`: the text of the list that makes the given devices, a line for each.
 //! - `device_table::listed`: the same of a table of `makedevs`: what its rows make and set, one
 //!   after the other, beside the found files, and the last file of each path.
 //! - `laying::{lay_list, lay_table}`: what a list and a table make of the found files: its files

@@ -1,3 +1,4 @@
 mod Rows
 mod Loops
+mod Plain
 mod Sizes

@@ -1,8 +1,10 @@
 -- The values of single words: alignments, addresses, numbers of bytes, owners. (This
 -- project's own.)
 use Rattle.std.specs.Prelude.{◌≡◌, ◌*◌, ◌^◌, ◌||◌, ℕ, List, [], ◌∷◌, ◌++◌, codes, find, drop, true}
+use Rattle.std.specs.Prelude.{Bool, false, not}
 use Rattle.std.specs.Prelude.{Option, Some, None, option_map, ◌==◌, if◌then◌else◌}
-use Rattle.std.specs.List.{starts_with}
+use Rattle.std.specs.Borrow.{Bor}
+use Rattle.std.specs.List.{list_any, starts_with}
 use Rattle.std.specs.Str.Parse.{IsNumeral, digits_value}
 use Rattle.std.specs.Str.{bytes_eq}
 use Rattle.command_line.specs.declared.request.AlignRule.{AlignRule}
@@ -89,6 +91,37 @@ pub data AreAligns : List (List ℕ) → ℕ × List AlignRule → Type 0 where
   no_align : AreAligns [] (4, [])
   next_align : (ws : List (List ℕ)) (w : List ℕ) (old new : ℕ × List AlignRule) → AreAligns ws old
       → NotesAlign w old new → AreAligns (ws ++ w ∷ []) new
+
+-- a text with bytes, none of them a space or a line feed
+abbrev pub is_plain : List ℕ → Bool
+is_plain [] = false
+is_plain (b ∷ bs) = not (list_any (λ a. (a == 32) || (a == 10)) (b ∷ bs))
+
+-- the words PATH, TYPE, MAJOR, MINOR and MODE of a device
+abbrev pub DeviceWords : Type 0
+DeviceWords =
+    Bor (List ℕ) × Bor (List ℕ) × Bor (List ℕ) × Bor (List ℕ) × Bor (List ℕ)
+
+-- a word is this device: plain texts with a space between each and the next
+pub record IsDevice (word : List ℕ) (d : DeviceWords) : Type 0 where
+  pub texts : word ≡ d.0.now ++ (codes " " ++ (d.1.now ++ (codes " " ++ (d.2.now ++ (codes " "
+      ++ (d.3.now ++ (codes " " ++ d.4.now)))))))
+  pub path : is_plain d.0.now ≡ true
+  pub kind : is_plain d.1.now ≡ true
+  pub major : is_plain d.2.now ≡ true
+  pub minor : is_plain d.3.now ≡ true
+  pub mode : is_plain d.4.now ≡ true
+
+-- A word adds a device.
+pub data NotesDevice (word : List ℕ) (old new : List DeviceWords) : Type 0 where
+  another_device : (d : DeviceWords) → IsDevice word d → new ≡ old ++ d ∷ []
+      → NotesDevice word old new
+
+-- each word is the device at the same index
+pub data AreDevices : List (List ℕ) → List DeviceWords → Type 0 where
+  no_device : AreDevices [] []
+  next_device : (ws : List (List ℕ)) (w : List ℕ) (old new : List DeviceWords)
+      → AreDevices ws old → NotesDevice w old new → AreDevices (ws ++ w ∷ []) new
 
 -- a value is the one that the word names; without the word there is none
 abbrev pub IsOptional : {X : Type 0} → (List ℕ → X → Type 0) → Option (List ℕ) → Option X → Type 0

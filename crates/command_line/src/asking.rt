@@ -1,7 +1,8 @@
 //! What each subcommand asks for, by the values that clap returns for its arguments.
 ghost use Rattle.std.specs.Prelude.{◌≡◌, ◌≢◌, IfNone, IfOk, IfSome, Some, codes, map, option_map};
 ghost use Rattle.clap.specs.Words.{all_of, first_of, found_of, rows_of};
-ghost use Rattle.command_line.specs.Numbers.{AreAddresses, AreAligns, IsAddress, IsBaseOf};
+ghost use Rattle.command_line.specs.Numbers.{AreAddresses, AreAligns, AreDevices, IsAddress};
+ghost use Rattle.command_line.specs.Numbers.{IsBaseOf, NotesDevice};
 ghost use Rattle.formats.specs.Format.{name_of};
 ghost use Rattle.command_line.specs.Numbers.{IsAlignOf, IsOptional, IsSize, NotesAlign};
 ghost use Rattle.command_line.specs.Words.{ArePlaces, AreTexts, HasNoValueForAll, IsAskedBy};
@@ -12,10 +13,12 @@ ghost use Rattle.command_line.specs.Words.{texts_or_none, word_of};
 ghost use Rattle.command_line.specs.declared.request.Request.TheVariants as request;
 
 use crate::error::{WordsError, Wrong};
-use crate::numbers::{address_named, align_named, align_rule_named, owner_named, size_named};
+use crate::numbers::{
+    address_named, align_named, align_rule_named, device_named, owner_named, size_named,
+};
 use crate::request::{
-    AlignRule, Build, Cat, Diff, Digest, Extract, Info, Map, MapForm, Numbers, Owner, Pack,
-    Padding, Request, Scan, ScanAll, Verify, Which, Xip,
+    AlignRule, Build, Cat, DeviceWords, Diff, Digest, Extract, Info, Map, MapForm, Numbers, Owner,
+    Pack, Padding, Request, Scan, ScanAll, Verify, Which, Xip,
 };
 use arrayvec::ArrayVec;
 use clap::ArgMatches;
@@ -416,6 +419,19 @@ fn note_align<'a>(word: &'a str, aligns: &mut Aligns<'a>) -> Result<(), WordsErr
     }
 }
 
+/// Notes the device that a word says.
+fn note_device<'a>(word: &'a str, devices: &mut Vec<DeviceWords<'a>>) -> Result<(), WordsError<'a>>
+    ensures { IfOk result (λ _. NotesDevice word.now devices.old.items devices.new.items) }
+{
+    match device_named(word) {
+        Some(device) => match devices.push(device) {
+            Ok(()) => Ok(()),
+            Err(e) => Err(AllocError::from(e).into()),
+        },
+        None => Err(Wrong::Device(word).into()),
+    }
+}
+
 /// Returns the alignments that are asked for.
 fn aligns_of<'a>(alloc: Global, values: &ArgMatches<'a>) -> Result<Aligns<'a>, WordsError<'a>>
     ensures { IfOk result (λ a. AreAligns
@@ -431,6 +447,22 @@ fn aligns_of<'a>(alloc: Global, values: &ArgMatches<'a>) -> Result<Aligns<'a>, W
         note_align(word, &mut aligns)?;
     }
     Ok(aligns)
+}
+
+/// Returns the devices that are given one by one.
+fn added_of<'a>(
+    alloc: Global,
+    values: &ArgMatches<'a>,
+) -> Result<Vec<DeviceWords<'a>>, WordsError<'a>>
+    ensures { IfOk result (λ v. AreDevices
+        (texts_or_none (all_of (codes "device") (rows_of (found_of values.now)))) v.items) }
+{
+    let words = texts_of(alloc, values, "device")?;
+    let mut devices = Vec::new(alloc);
+    for word in &words {
+        note_device(word, &mut devices)?;
+    }
+    Ok(devices)
 }
 
 /// Returns the owner of all files, if one is given.
@@ -480,6 +512,7 @@ fn scan_all_of<'a>(alloc: Global, values: &ArgMatches<'a>) -> Result<ScanAll<'a>
     }
     let dedupe = dedupe_of(values, format)?;
     let aligns = aligns_of(alloc, values)?;
+    let added = added_of(alloc, values)?;
     let owner = wished_owner(values)?;
     Ok(ScanAll {
         directories,
@@ -491,6 +524,7 @@ fn scan_all_of<'a>(alloc: Global, values: &ArgMatches<'a>) -> Result<ScanAll<'a>
         volume: value_of(values, "volume"),
         devices: value_of(values, "devices"),
         device_table: value_of(values, "device-table"),
+        added,
         dedupe,
         output,
         depfile,
@@ -557,6 +591,7 @@ fn packed_scan<'a>(
     let patterns = texts_of(alloc, values, "exclude")?;
     let dedupe = dedupe_of(values, Some(format))?;
     let aligns = aligns_of(alloc, values)?;
+    let added = added_of(alloc, values)?;
     let owner = wished_owner(values)?;
     Ok(ScanAll {
         directories,
@@ -568,6 +603,7 @@ fn packed_scan<'a>(
         volume: value_of(values, "volume"),
         devices: value_of(values, "devices"),
         device_table: value_of(values, "device-table"),
+        added,
         dedupe,
         output: value_of(values, "manifest"),
         depfile: None,
@@ -610,6 +646,8 @@ fn value_with_all(values: &ArgMatches<'_>) -> Option<&'static str>
         Some("devices")
     } else if value_of(values, "device-table").is_some() {
         Some("device-table")
+    } else if value_of(values, "device").is_some() {
+        Some("device")
     } else if value_of(values, "output").is_some() {
         Some("output")
     } else if value_of(values, "depfile").is_some() {

@@ -22,6 +22,8 @@ pub enum Wrong<'a> {
     Size(&'a str),
     /// The word is no owner and group.
     Owner(&'a str),
+    /// The word is no device.
+    Device(&'a str),
     /// The map was asked for in several forms, or a prefix or a pattern was given without `--c` and
     /// `--ld`.
     Forms,
@@ -90,6 +92,12 @@ impl Display for Wrong<'_> {
             }
             Wrong::Owner(word) => {
                 write!(f, "UID:GID are two numbers, such as 0:0, and not {word:?}")
+            }
+            Wrong::Device(word) => {
+                write!(
+                    f,
+                    "DEVICE is PATH TYPE MAJOR MINOR MODE, five words with single spaces between them, such as '/dev/console c 5 1 0600', and not {word:?}"
+                )
             }
             Wrong::Forms => {
                 write!(

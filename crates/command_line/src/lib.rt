@@ -7,9 +7,10 @@
 //!   only `--explain`. If other words are accepted, they ask for their subcommand with its
 //!   arguments, each the value that clap's walk returns, and for images of at most the bytes of
 //!   `--max-size`.
-//! - `read`, and `align_named`, `address_named`, `size_named`, `owner_named`, `align_rule_named` in
-//!   it: a format, an alignment, a number of bytes, an owner, a pattern's alignment and an address
-//!   (hexadecimal digits) are the values of their words.
+//! - `read`, and `align_named`, `address_named`, `size_named`, `owner_named`, `align_rule_named`,
+//!   `device_named` in it: a format, an alignment, a number of bytes, an owner, a pattern's
+//!   alignment, an address (hexadecimal digits) and a device (five words) are the values of their
+//!   words.
 //! - `read`, and `command` in it: clap receives exactly the subcommands, words and options of
 //!   `table.rt`, among them `--explain` and a version.
 //! - `is_explain`: the word that asks for explanations.
@@ -29,7 +30,7 @@ pub use error::{WordsError, Wrong};
 pub use help::shown;
 pub use numbers::size_named;
 pub use request::{
-    AlignRule, Build, Cat, Diff, Digest, Extract, Info, Limited, Map, MapForm, Numbers, Owner,
-    Pack, Padding, Request, Scan, ScanAll, Verify, Which, Xip,
+    AlignRule, Build, Cat, DeviceWords, Diff, Digest, Extract, Info, Limited, Map, MapForm,
+    Numbers, Owner, Pack, Padding, Request, Scan, ScanAll, Verify, Which, Xip,
 };
 pub use words::{is_explain, read};

@@ -1,10 +1,10 @@
-//! The values that single words name: alignments, addresses, sizes and owners.
+//! The values that single words name: alignments, addresses, sizes, owners and devices.
 ghost use Rattle.std.specs.Prelude.{◌≡◌, ◌≢◌, ◌≤◌, IfNone, IfSome, Some};
 ghost use Rattle.command_line.specs.Numbers.{IsAddress, IsAlignRule, IsNumber, IsOwner, IsSize};
-ghost use Rattle.command_line.specs.Numbers.{align_named, unit_of};
+ghost use Rattle.command_line.specs.Numbers.{IsDevice, align_named, is_plain, unit_of};
 
-use crate::request::{AlignRule, Owner};
-use memchr::{memchr, memrchr};
+use crate::request::{AlignRule, DeviceWords, Owner};
+use memchr::{memchr, memchr2, memrchr};
 
 /// Returns the alignment that bytes name: a power of two that a manifest may have, in bytes or in
 /// units of 1,024.
@@ -145,5 +145,27 @@ pub fn align_rule_named<'a>(word: &'a str) -> Option<AlignRule<'a>>
     match std::str::from_utf8(&word[..equals]) {
         Ok(pattern) => Some(AlignRule { pattern, align }),
         Err(_) => None,
+    }
+}
+
+/// Returns whether a text is a word: it has bytes, and neither a space nor a line feed.
+fn is_plain(text: &str) -> bool
+    ensures { result ≡ is_plain text.now }
+{
+    !text.is_empty() && memchr2(b' ', b'\n', text.as_bytes()).is_none()
+}
+
+/// Returns the five words of a device, which have single spaces between them.
+pub fn device_named<'a>(word: &'a str) -> Option<DeviceWords<'a>>
+    ensures { IfSome result (IsDevice word.now) }
+{
+    let (path, rest) = word.split_once(' ')?;
+    let (kind, rest) = rest.split_once(' ')?;
+    let (major, rest) = rest.split_once(' ')?;
+    let (minor, mode) = rest.split_once(' ')?;
+    if is_plain(path) && is_plain(kind) && is_plain(major) && is_plain(minor) && is_plain(mode) {
+        Some((path, kind, major, minor, mode))
+    } else {
+        None
     }
 }

@@ -211,6 +211,8 @@ pub struct ScanAll<'a> {
     pub devices: Option<&'a str>,
     /// The file of a table of devices as `makedevs` reads it, whose devices are added.
     pub device_table: Option<&'a str>,
+    /// Further devices that are added.
+    pub added: Vec<DeviceWords<'a>>,
     /// Whether files with equal bytes share their contents.
     pub dedupe: bool,
     /// The file for the manifest, instead of standard output.
@@ -233,6 +235,9 @@ pub struct Pack<'a> {
     /// Whether no words are written on standard error.
     pub is_quiet: bool,
 }
+
+/// The words PATH, TYPE, MAJOR, MINOR and MODE of a device.
+pub type DeviceWords<'a> = (&'a str, &'a str, &'a str, &'a str, &'a str);
 
 /// The alignment of the regular files whose paths match a pattern.
 #[derive(Clone, Copy)]

@@ -378,6 +378,13 @@ const DEVICE_TABLE: Word<'static> = Word {
     help: "With --all: adds the devices of a table for makedevs, and sets modes and owners by it",
 };
 
+const DEVICE: Word<'static> = Word {
+    kind: Kind::Repeated,
+    name: "device",
+    shown: "DEVICE",
+    help: "With --all: adds the device 'PATH TYPE MAJOR MINOR MODE', such as '/dev/console c 5 1 0600'",
+};
+
 const DEDUPE: Word<'static> = Word {
     kind: Kind::Flag,
     name: "dedupe",
@@ -460,6 +467,13 @@ const TABLE_PACKED: Word<'static> = Word {
     name: "device-table",
     shown: "FILE",
     help: "Adds the devices of a table for makedevs, and sets modes and owners by it",
+};
+
+const DEVICE_PACKED: Word<'static> = Word {
+    kind: Kind::Repeated,
+    name: "device",
+    shown: "DEVICE",
+    help: "Adds the device 'PATH TYPE MAJOR MINOR MODE', such as '/dev/console c 5 1 0600'",
 };
 
 const DEDUPE_PACKED: Word<'static> = Word {
@@ -658,6 +672,7 @@ pub const BUILDING: [Subcommand<'static>; 4] = [
             VOLUME_PACKED,
             DEVICES_PACKED,
             TABLE_PACKED,
+            DEVICE_PACKED,
             DEDUPE_PACKED,
             ONE_FILE_SYSTEM,
             STRICT_PACK,
@@ -689,6 +704,7 @@ pub const OTHERS: [Subcommand<'static>; 3] = [
             VOLUME,
             DEVICES,
             DEVICE_TABLE,
+            DEVICE,
             DEDUPE,
             OUTPUT,
             DEPFILE_SCANNED,

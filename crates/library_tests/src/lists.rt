@@ -66,6 +66,19 @@ dir /dev 0755 0 0\n";
 }
 
 #[test]
+fn list_of_given_devices(rt: HostRuntime) -> Result<(), Fail> {
+    let alloc = rt.alloc();
+    let given = [
+        ("/console", "c", "5", "1", "0600"),
+        ("/sda", "b", "8", "0", "0660"),
+    ];
+    let text = devices::list_for(alloc, &given).unwrap_or(Vec::new(alloc));
+    let lines = b"nod /console 0600 0 0 c 5 1\nnod /sda 0660 0 0 b 8 0\n";
+    assert!(rt; text.as_slice() == lines.as_slice());
+    Ok(())
+}
+
+#[test]
 fn lists_that_are_refused(rt: HostRuntime) -> Result<(), Fail> {
     let alloc = rt.alloc();
     let unknown = devices::listed(alloc, b"dir /a 0755 0 0\nfile /a/b 0644 0 0 4 x\n", &[]);

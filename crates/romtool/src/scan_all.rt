@@ -15,12 +15,12 @@ use crate::unfit::Unfit;
 use crate::watched::States;
 use crate::words::Words;
 use crate::written::files_written;
-use build_commands::Rule;
 use build_commands::alignments::{align_all, share_alignments};
 use build_commands::inventory::{FileKind, NamedFile, lines, put_found};
 use build_commands::laying::{LayError, lay_list, lay_table};
 use build_commands::overlay::{OverlayError, is_directory, laid_over};
 use build_commands::rights::own_all;
+use build_commands::{Rule, devices};
 use command_line::ScanAll;
 use manifest::Entry;
 use rom_commands::Status;
@@ -33,6 +33,9 @@ use system_files::{
     Identity, KeepError, Outputs, Reason, Target, Watched, current_directory, identity_of,
     is_unfaked, reading,
 };
+
+/// The place of a refused device that was given by itself.
+const DEVICE: &str = "--device";
 
 /// The most bytes of a volume's name.
 const MOST_VOLUME: usize = 255;
@@ -67,8 +70,24 @@ fn unlaid(reporter: &Reporter<'_>, name: &str, text: &[u8], why: LayError) -> St
     }
 }
 
-/// Lays what the table of devices says, and then what the list of devices says, over the files that
-/// were found, if they are named.
+/// Lays what the list of this name says, which has this text, over the files that were found.
+fn with_list(
+    reporter: &Reporter<'_>,
+    name: &str,
+    text: &[u8],
+    found: Vec<NamedFile>,
+) -> Result<Vec<NamedFile>, Stop>
+    requires { AreInOrder found.items }
+    ensures { IfOk result (λ v. AreInOrder v.items) }
+{
+    match lay_list(reporter.rt.alloc(), found, text) {
+        Ok(laid) => Ok(laid),
+        Err(why) => Err(unlaid(reporter, name, text, why)),
+    }
+}
+
+/// Lays what the table of devices, the list of devices, and the devices that are given one by one
+/// say over the files that were found.
 fn with_devices(
     reporter: &Reporter<'_>,
     scan: &ScanAll<'_>,
@@ -87,12 +106,13 @@ fn with_devices(
     }
     if let Some(name) = scan.devices {
         let text = text_of_file(reporter.rt, name, watched)?;
-        found = match lay_list(alloc, found, &text) {
-            Ok(laid) => laid,
-            Err(why) => return Err(unlaid(reporter, name, &text, why)),
-        };
+        found = with_list(reporter, name, &text, found)?;
     }
-    Ok(found)
+    if scan.added.is_empty() {
+        return Ok(found);
+    }
+    let text = devices::list_for(alloc, &scan.added)?;
+    with_list(reporter, DEVICE, &text, found)
 }
 
 /// What a scan found.
