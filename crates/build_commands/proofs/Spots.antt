@@ -69,7 +69,8 @@ spot_more ss old new i s file d r at is l h =
     ap (λ (v : List Spot). spot_from file (get_or v file d) (drop (i + 1) ss)) is
     ∙ ap (λ (v : Spot). spot_from file v (drop (i + 1) ss))
     (by_body s.body old (spot_of s (section_at ss (i + 1))) file d l)
-    ∙ ap (λ (n : Option Section). spot_from file (cond (holds file s.body) (spot_of s n) (get_or old file d)) (drop (i + 1) ss))
+    ∙ ap (λ (n : Option Section). spot_from file (cond (holds file s.body) (spot_of s n) (get_or old file d))
+    (drop (i + 1) ss))
     (sym (first_dropped ss (i + 1)))
     ∙ sym (ap (spot_from file (get_or old file d)) (at_dropped ss i s at))
     ∙ h

@@ -14,7 +14,8 @@ loop-index-preserved c = elim c.match-section.branch [
       let at : section_at sections c.loop-index.index ≡ Some here =
       sym c.section.ensures ∙ ap (option_map section_view) w.in-Some.is
       in
-      let new : c.match-section.spots.items ≡ with_spot c.loop-index.spots.items here (section_at sections (c.loop-index.index + 1)) =
+      let new : c.match-section.spots.items
+      ≡ with_spot c.loop-index.spots.items here (section_at sections (c.loop-index.index + 1)) =
       ap (λ v. v.items) w.spots-is ∙ w.note.ensures
       ∙ ap (with_spot c.loop-index.spots.items here) w.section-in-Some.ensures
       in
@@ -22,7 +23,8 @@ loop-index-preserved c = elim c.match-section.branch [
         size = ap length new ∙ size_kept c.loop-index.spots.items here (section_at sections (c.loop-index.index + 1))
             ∙ c.loop-index.invariant.size;
         spots = λ file d l.
-            spot_more sections c.loop-index.spots.items c.match-section.spots.items c.loop-index.index here file d _ at new
+            spot_more sections c.loop-index.spots.items c.match-section.spots.items c.loop-index.index here file d _ at
+            new
             (omega (arith, l, c.loop-index.invariant.size)) (c.loop-index.invariant.spots file d l);
       }
   | in_default w ↦
