@@ -1,3 +1,4 @@
 pub mod Found
 pub mod Lines
 pub mod Findings
+pub mod Alike

@@ -10,10 +10,13 @@
 //!   a prefix is written.
 //! - `verdict_at`, `Reason::word`: whether a program is not, or not wholly, in place; the verdict
 //!   on a program at an address; the word of a reason.
+//! - `laws::planned_is_found`: with an MMU, what is found of a file in one run of an image is what
+//!   `verdict_at` says of its bytes alone, except whether its last page is in place.
 #![tactic(auto)]
 
 mod finding;
 mod findings;
+pub mod laws;
 mod lines;
 mod object;
 mod question;
