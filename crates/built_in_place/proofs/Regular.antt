@@ -127,15 +127,16 @@ first_named (x ∷ xs) q l h e =
       ]
     ] refl
 
--- the file at the path of such a line
-record IsFound (m : ManifestLines) (sizes : List ℕ) (q : List (List ℕ)) : Type 0 where
-  inode : Inode
-  is : file_named m.lines sizes q ≡ Some inode
-  regular : inode.kind ≡ kind.Regular
+-- the file at the path of such a line, and the line that makes it
+pub record IsFound (m : ManifestLines) (sizes : List ℕ) (p : List ℕ) (q : List (List ℕ)) : Type 0 where
+  pub line : Line
+  pub leads : led (reverse m.lines) p ≡ Some line
+  pub makes : (is_file line.word || is_same line.word) ≡ true
+  is : file_named m.lines sizes q ≡ Some (inode_of m.lines sizes line)
 
 found : (m : ManifestLines) (sizes : List ℕ) (l g : Line) (n : List ℕ) (ns : List (List ℕ))
     → Has (λ z. z ≡ l) m.lines → filed (reverse m.lines) l.path ≡ Some g → names_of l.path ≡ Some (n ∷ ns)
-    → IsFound m sizes (n ∷ ns)
+    → IsFound m sizes l.path (n ∷ ns)
 unfolding file_at
 found m sizes l g n ns here f e =
     let all = m.lines in
@@ -147,11 +148,12 @@ found m sizes l g n ns here f e =
     let at_line : file_at all sizes l.path ≡ Some (inode_of all sizes k.line) =
     ap (option_map (inode_of all sizes)) k.leads in
     record {
-      inode = inode_of all sizes k.line;
+      line = k.line;
+      leads = k.leads;
+      makes = k.makes;
       is =
           ap (option_and_then (λ (y : Line). file_at all sizes y.path)) first.1
           ∙ (ap (file_at all sizes) same ∙ at_line);
-      regular = kind_is all sizes k.line k.makes;
     }
 
 by_kind : (x : Node) → kind_of x ≡ kind.Regular → is_regular x ≡ true
@@ -164,20 +166,34 @@ by_kind (node a socket) e = absurd (cc)
 by_kind (node a fifo) e = absurd (cc)
 
 same_kind : (image : List ℕ) (contents : List (List ℕ)) (x : Node) (i : Inode)
-    → Some (node_value image x) ≡ Some (file_value contents i) → kind_of x ≡ i.kind
+    → node_value image x ≡ file_value contents i → kind_of x ≡ i.kind
 unfolding node_value file_value
-same_kind image contents x i e =
-    let v : node_value image x ≡ file_value contents i = cc in
-    ap (λ (w : Value). w.kind) v
+same_kind image contents x i e = ap (λ (w : Value). w.kind) e
 
--- The node at the path of a line with contents is a regular file.
+same_some : (v w : Value) → Some v ≡ Some w → v ≡ w
+same_some v w e = cc
+
+-- The node at the path of a line with contents has the value of this file.
+pub value_at : (image : List ℕ) (t : Node) (contents : List (List ℕ)) (m : ManifestLines) (sizes : List ℕ)
+    → IsMeant image t contents m sizes → (l g : Line) (n : List ℕ) (ns : List (List ℕ)) (x : Node)
+    → Has (λ z. z ≡ l) m.lines → filed (reverse m.lines) l.path ≡ Some g → names_of l.path ≡ Some (n ∷ ns)
+    → node_under (n ∷ ns) t ≡ Some x
+    → (i : IsFound m sizes l.path (n ∷ ns)) × (node_value image x ≡ file_value contents (inode_of m.lines sizes i.line))
+value_at image t contents m sizes meant l g n ns x here f e under =
+    let i = found m sizes l g n ns here f e in
+    let k : Inode = inode_of m.lines sizes i.line in (
+      i,
+      same_some (node_value image x) (file_value contents k)
+          (sym (ap (option_map (node_value image)) under) ∙ (meant.values (n ∷ ns)
+          ∙ ap (option_map (file_value contents)) i.is)),
+    )
+
+-- It is a regular file.
 pub regular_at : (image : List ℕ) (t : Node) (contents : List (List ℕ)) (m : ManifestLines) (sizes : List ℕ)
     → IsMeant image t contents m sizes → (l g : Line) (n : List ℕ) (ns : List (List ℕ)) (x : Node)
     → Has (λ z. z ≡ l) m.lines → filed (reverse m.lines) l.path ≡ Some g → names_of l.path ≡ Some (n ∷ ns)
     → node_under (n ∷ ns) t ≡ Some x → is_regular x ≡ true
 regular_at image t contents m sizes meant l g n ns x here f e under =
-    let i = found m sizes l g n ns here f e in
-    let v : Some (node_value image x) ≡ Some (file_value contents i.inode) =
-    sym (ap (option_map (node_value image)) under) ∙ (meant.values (n ∷ ns)
-    ∙ ap (option_map (file_value contents)) i.is) in
-    by_kind x (same_kind image contents x i.inode v ∙ i.regular)
+    let v = value_at image t contents m sizes meant l g n ns x here f e under in
+    by_kind x (same_kind image contents x (inode_of m.lines sizes v.0.line) v.1
+    ∙ kind_is m.lines sizes v.0.line v.0.makes)

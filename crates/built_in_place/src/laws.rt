@@ -1,18 +1,21 @@
 //! What Linux maps of the files of a built image.
-ghost use Rattle.std.specs.Prelude.{◌≡◌, ◌<◌, ◌^◌, ℕ, List, Ok, Option, length};
+ghost use Rattle.std.specs.Prelude.{◌≡◌, ◌<◌, ◌^◌, ℕ, List, Ok, Option, false, length};
 ghost use Rattle.built_in_place.specs.Files.{AreInPlace, AreMappedWhole, HoldsImage};
+ghost use Rattle.built_in_place.specs.Programs.{AreFound, IsAccepted};
 ghost use Rattle.built_in_place.specs.Romfs.{AreMappedInRomfs, FillsPages};
 ghost use Rattle.cramfs_format.specs.declared.order.Order.{Order};
 ghost use Rattle.program_pages.specs.Physmem.{Flash};
-ghost use Rattle.formats.specs.Format.{cramfs};
+ghost use Rattle.formats.specs.Format.{Format, cramfs};
 ghost use Rattle.image_build.specs.Accepted.{usual};
 ghost use Rattle.image_build.specs.Builds.{Builds};
 ghost use Rattle.image_build.specs.Streamed.{IsPlanOfText, form_in, image_with, stored_in};
 ghost use Rattle.image_check.specs.Checked.{HasTree};
+ghost use Rattle.image_check.specs.declared.any.AnyImage.{AnyImage};
 ghost use Rattle.image_stream.specs.Outcomes.{IsWritten};
 ghost use Rattle.manifest.specs.Grammar.{manifest_of};
 ghost use Rattle.manifest.specs.Lines.{ManifestLines};
 ghost use Rattle.plan_types.specs.Plans.{Planned};
+ghost use Rattle.program_report.specs.declared.question.Question.{Question};
 ghost use Rattle.rom_tree.specs.Tree.{Node};
 ghost use Rattle.romfs_format.specs.Tree.{RomfsTree};
 
@@ -73,4 +76,18 @@ pub fn streamed_is_in_place()
     image_build::laws::streamed_is_accepted();
     built_is_in_place();
     built_is_mapped_whole();
+}
+
+/// Shows that with an MMU, what `xip` finds of each file of a built image is what the contents of
+/// its source say, at the place that the image gives them. Only the last page of a program may be
+/// in place as well, if no other data are in it.
+pub fn built_is_found()
+    ensures { (f : Format) (text : List ℕ) (contents : List (List ℕ)) (bytes : List ℕ)
+        (m : ManifestLines) (a : AnyImage) (q : Question) → Builds f text contents (Ok bytes)
+        → manifest_of text ≡ Ok m → IsAccepted bytes a → q.no_mmu ≡ false
+        → AreFound f m contents a q }
+{
+    image_build::laws::built_is_accepted();
+    image_build::laws::built_is_placed();
+    program_report::laws::planned_is_found();
 }

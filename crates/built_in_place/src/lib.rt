@@ -1,4 +1,5 @@
-//! Files of images are executed in place.
+//! Files of images are executed in place, and what is found of them is known before the image is
+//! there.
 //!
 //! Proved:
 //!
@@ -9,6 +10,8 @@
 //! - `laws::built_is_mapped_whole`: without an MMU, Linux maps all pages of each file of a built
 //!   cramfs image.
 //! - `laws::streamed_is_in_place`: the same two of a streamed cramfs image.
+//! - `laws::built_is_found`: with an MMU, what `xip` finds of a file of a built image is what the
+//!   contents of its source say at their place, except whether its last page is in place.
 //! - `laws::romfs_is_mapped`: without an MMU, Linux maps all pages of the files of any romfs image.
 #![tactic(auto)]
 
