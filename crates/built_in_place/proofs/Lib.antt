@@ -4,3 +4,10 @@ pub mod Regular
 pub mod InRomfs
 pub mod Contents
 pub mod Found
+pub mod Owned
+pub mod Sections
+pub mod InCramfsPlan
+pub mod InRomfsPlan
+pub mod Planned
+pub mod Known
+pub mod NotRefused
