@@ -36,6 +36,7 @@ use Rattle.program_report.specs.declared.question.Question.{Question}
 use Rattle.built_in_place.specs.Programs.{AreFound, IsFileFound, IsFoundOf, is_in_romfs}
 use Rattle.built_in_place.proofs.Contents.{contents_at, filled_by, length_source, named_sourced}
 use Rattle.built_in_place.proofs.Planned.{AreAtSections}
+use Rattle.built_in_place.proofs.Reached.{HavePaths}
 use Rattle.built_in_place.proofs.Regular.{by_kind, found, kind_is, same_kind, value_at}
 use Rattle.built_in_place.proofs.Under.{in_under}
 
@@ -86,6 +87,7 @@ pub record IsKnown (f : Format) (m : ManifestLines) (cs : List (List ℕ)) (a : 
   pub format : is_romfs a ≡ is_in_romfs f
   pub meant : IsMeant (any_view a).bytes (any_view a).tree cs m (map length cs)
   pub planned : AreAtSections f m cs (any_view a).tree
+  pub paths : HavePaths (any_view a).tree
 
 -- a file whose bytes are in one run
 file_found : FoundByBytes → (r : Bool) (ss : List Section) (k : ℕ) (a : AnyImage) (q : Question) (b : List ℕ) (x : Node)

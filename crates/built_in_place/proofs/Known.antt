@@ -14,7 +14,7 @@ use Rattle.manifest_layout.specs.Misfit.{HasNoMisfit}
 use Rattle.manifest_tree.specs.Meant.{IsMeant}
 use Rattle.built_in_place.specs.Programs.{IsAccepted}
 use Rattle.built_in_place.proofs.Found.{IsKnown, same_format, shown_bytes, shown_tree, usual_tree}
-use Rattle.built_in_place.proofs.Planned.{HasOneTree, at_sections}
+use Rattle.built_in_place.proofs.Planned.{HasOneTree, all_have_paths, at_sections}
 
 -- what a lower law says
 abbrev pub FitsPlan : Type 0
@@ -30,13 +30,15 @@ known_by one plan f text cs bytes a x ok =
     let tree = shown_tree bytes (any_view a) (report_of a) ok.shows in
     let same = one bytes usual usual x.3.tree t (usual_tree f bytes x.3.tree x.3.holds) tree in
     let meant = subst (λ (v : Node). IsMeant bytes v cs x.0 (map length cs)) same x.3.meant in
+    let planned = plan f x.0 cs is x.2 in
+    let laid = subst (λ (b : List ℕ). HasTree b usual t) x.3.layout tree in
     record {
       manifest = is;
       format = same_format f bytes x.3.tree a x.3.holds ok.format;
       meant = subst (λ (b : List ℕ). IsMeant b t cs x.0 (map length cs))
           (sym (shown_bytes bytes (any_view a) (report_of a) ok.shows)) meant;
-      planned = at_sections one f x.0 cs t is x.2 (plan f x.0 cs is x.2)
-          (subst (λ (b : List ℕ). HasTree b usual t) x.3.layout tree);
+      planned = at_sections one f x.0 cs t is x.2 planned laid;
+      paths = all_have_paths one f x.0 cs t planned laid;
     }
 
 pub known : HasOneTree → FitsPlan → (f : Format) (text : List ℕ) (cs : List (List ℕ)) (bytes : List ℕ)

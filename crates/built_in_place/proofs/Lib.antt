@@ -11,3 +11,5 @@ pub mod InRomfsPlan
 pub mod Planned
 pub mod Known
 pub mod NotRefused
+pub mod Reached
+pub mod Totals

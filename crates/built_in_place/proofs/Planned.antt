@@ -23,6 +23,7 @@ use Rattle.manifest_tree.specs.Tree.{file_named, root_of, tree_of}
 use Rattle.manifest_tree.proofs.Law.{law_of_names}
 use Rattle.built_in_place.proofs.InCramfsPlan.{planned_in_cramfs}
 use Rattle.built_in_place.proofs.InRomfsPlan.{planned_in_romfs}
+use Rattle.built_in_place.proofs.Reached.{HavePaths, paths_in_cramfs, paths_in_romfs}
 use Rattle.built_in_place.proofs.Sections.{IsAtSection}
 
 -- what a lower law says
@@ -58,3 +59,21 @@ at_sections one (cramfs o) m cs t is fits h tree q x i k under named kind z fill
     one (layout_of (cramfs o) m cs) usual usual t u tree (inr (o, cramfs_image.has_tree o m.volume root n cs h)) in
     planned_in_cramfs o m.volume root n cs (align_of m.lines) h (sourced (cramfs o) m sizes is fits) q x i k
     (subst (λ (v : Node). node_under q v ≡ Some x) same under) (law_of_names m sizes q is ∙ named) kind z fill
+
+pub all_have_paths : HasOneTree → (f : Format) (m : ManifestLines) (cs : List (List ℕ)) (t : Node) → IsPlannedBy f m cs
+    → HasTree (layout_of f m cs) usual t → HavePaths t
+all_have_paths one romfs m cs t h tree =
+    let root = root_of m.lines (map length cs) in
+    let n = tree_of m.lines (map length cs) in
+    let b = bytes_in m.volume root n cs in
+    let u : Node = romfs_image.tree_in b m.volume n in
+    subst HavePaths
+    (one (layout_of romfs m cs) usual usual u t (inl (romfs_image.has_tree m.volume root n cs h)) tree)
+    (paths_in_romfs b m.volume n cs h.well)
+all_have_paths one (cramfs o) m cs t h tree =
+    let root = root_of m.lines (map length cs) in
+    let n = tree_of m.lines (map length cs) in
+    let u : Node = tree_in_cramfs o (of_cramfs.layout o m.volume root n cs) (all_spots n) in
+    subst HavePaths
+    (one (layout_of (cramfs o) m cs) usual usual u t (inr (o, cramfs_image.has_tree o m.volume root n cs h)) tree)
+    (paths_in_cramfs o m.volume root n cs h)

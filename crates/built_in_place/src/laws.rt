@@ -20,6 +20,7 @@ ghost use Rattle.manifest.specs.Lines.{ManifestLines};
 ghost use Rattle.manifest_tree.specs.Shape.{node_under};
 ghost use Rattle.plan_types.specs.Plans.{Planned};
 ghost use Rattle.program_report.specs.Found.{found_in};
+ghost use Rattle.program_report.specs.Lines.{tally_of};
 ghost use Rattle.program_report.specs.declared.question.Question.{Question};
 ghost use Rattle.rom_tree.specs.Tree.{Node};
 ghost use Rattle.romfs_format.specs.Tree.{RomfsTree};
@@ -98,22 +99,26 @@ pub fn built_is_found()
 }
 
 /// Shows that if by the plan no program is out of place, `xip` with an MMU finds none that is, at
-/// any path of the built image.
+/// any path of the built image: it has no line `not`, and counts none.
 pub fn planned_is_not_refused()
-    ensures { (f : Format) (text : List ℕ) (contents : List (List ℕ)) (bytes : List ℕ)
+    ensures found { (f : Format) (text : List ℕ) (contents : List (List ℕ)) (bytes : List ℕ)
         (m : ManifestLines) (a : AnyImage) (q : Question) (path : List (List ℕ)) (x : Node)
         → Builds f text contents (Ok bytes) → manifest_of text ≡ Ok m → IsAccepted bytes a
         → q.no_mmu ≡ false → HasNoRefused f m contents q.base
         → node_under path (any_view a).tree ≡ Some x
         → IfSome (found_in a q x) (λ v. IsNotRefused v.verdict) }
+    ensures total { (f : Format) (text : List ℕ) (contents : List (List ℕ)) (bytes : List ℕ)
+        (m : ManifestLines) (a : AnyImage) (q : Question) → Builds f text contents (Ok bytes)
+        → manifest_of text ≡ Ok m → IsAccepted bytes a → q.no_mmu ≡ false
+        → HasNoRefused f m contents q.base → (tally_of a q).not ≡ 0 }
 {
     image_check::laws::one_tree();
     manifest_layout::laws::fitting_is_planned();
     program_report::laws::planned_is_found();
 }
 
-/// Shows the first of these two for an image that was streamed, whatever the sources are, if no
-/// source has a copy: it has some contents of the planned sizes.
+/// Shows the same two for an image that was streamed, whatever the sources are, if no source has a
+/// copy: it has some contents of the planned sizes.
 pub fn streamed_is_found()
     ensures { (text : List ℕ) (p : Planned) (known : Option (List (List ℕ)))
         (old new : Option (List ℕ)) (a : AnyImage) (q : Question) → (is : IsPlanOfText text p)
@@ -121,8 +126,10 @@ pub fn streamed_is_found()
         → (w : IsWritten known (form_in p.format p) (stored_in p.format) old new)
         → IsAccepted (image_with p w.rest) a → q.no_mmu ≡ false
         → (contents : List (List ℕ)) × (map length contents ≡ p.sizes)
-        × AreFound p.format is.lines contents a q }
+        × AreFound p.format is.lines contents a q
+        × (HasNoRefused p.format is.lines contents q.base → (tally_of a q).not ≡ 0) }
 {
     image_build::laws::streamed_is_accepted();
     built_is_found();
+    planned_is_not_refused();
 }

@@ -14,8 +14,8 @@
 //!   contents of its source say at the place that the plan gives them, except whether its last page
 //!   is in place.
 //! - `laws::planned_is_not_refused`: if by the plan no program is out of place, `xip` with an MMU
-//!   finds none that is, at any path of the built image.
-//! - `laws::streamed_is_found`: the first of these of a streamed image, if no source has a copy.
+//!   finds none that is, at any path of the built image, and counts none.
+//! - `laws::streamed_is_found`: the same two of a streamed image, if no source has a copy.
 //! - `laws::romfs_is_mapped`: without an MMU, Linux maps all pages of the files of any romfs image.
 #![tactic(auto)]
 
