@@ -1,6 +1,6 @@
 -- What is found of the files of a built image.
-use Rattle.std.proofs.Common.{◌≡◌, ◌≢◌, ℕ, zero, suc, ◌+◌, ◌-◌, ◌<◌, ◌≤◌, Bool, true, false, List, [], ◌∷◌, get_or}
-use Rattle.std.proofs.Common.{length, map, Some, inl, inr, refl, sym, ap, subst, ◌∙◌, arith}
+use Rattle.std.proofs.Common.{◌≡◌, ◌≢◌, ℕ, ◌+◌, ◌-◌, ◌<◌, ◌≤◌, Bool, true, false, List, [], ◌∷◌, get_or}
+use Rattle.std.proofs.Common.{length, map, Option, Some, inl, inr, refl, sym, ap, subst, ◌∙◌, arith}
 use Rattle.std.proofs.lemmas.Bool.Decides.{eqb_tells}
 use Rattle.std.proofs.lemmas.List.{length-map}
 use Rattle.std.specs.Prelude.{slice_index}
@@ -32,12 +32,15 @@ use Rattle.manifest_tree.specs.Tree.{file_named, inode_of, sources_before}
 use Rattle.program_pages.specs.Physmem.{shares_page}
 use Rattle.program_report.specs.Alike.{IsFoundAs}
 use Rattle.program_report.specs.Found.{found_in, is_romfs, verdict_at}
+use Rattle.program_report.specs.declared.finding.Verdict.{Verdict}
 use Rattle.program_report.specs.declared.question.Question.{Question}
-use Rattle.built_in_place.specs.Programs.{AreFound, IsFileFound, IsFoundOf, is_in_romfs}
+use Rattle.built_in_place.specs.Programs.{AreFound, IsAskedAt, IsFileFound, IsFoundOf, is_in_romfs}
 use Rattle.built_in_place.proofs.Contents.{contents_at, filled_by, length_source, named_sourced}
+use Rattle.built_in_place.proofs.Owned.{some}
 use Rattle.built_in_place.proofs.Planned.{AreAtSections}
 use Rattle.built_in_place.proofs.Reached.{HavePaths}
 use Rattle.built_in_place.proofs.Regular.{by_kind, found, kind_is, same_kind, value_at}
+use Rattle.built_in_place.proofs.Repeats.{verdict_repeats}
 use Rattle.built_in_place.proofs.Under.{in_under}
 
 -- the image is of the format in which it was built
@@ -90,29 +93,33 @@ pub record IsKnown (f : Format) (m : ManifestLines) (cs : List (List ℕ)) (a : 
   pub paths : HavePaths (any_view a).tree
 
 -- a file whose bytes are in one run
-file_found : FoundByBytes → (r : Bool) (ss : List Section) (k : ℕ) (a : AnyImage) (q : Question) (b : List ℕ) (x : Node)
-    (start : ℕ) → q.no_mmu ≡ false → is_regular x ≡ true → is_romfs a ≡ r → contents_of (any_view a).bytes x ≡ b
+file_found : FoundByBytes → (r : Bool) (ss : List Section) (base k : ℕ) (b : List ℕ) (a : AnyImage) (q : Question)
+    (x : Node) (start : ℕ) → IsAskedAt base q → is_regular x ≡ true → is_romfs a ≡ r
+    → contents_of (any_view a).bytes x ≡ b
     → (length b ≢ 0 → Has (λ s. s ≡ section start (length b) (source_bytes k)) ss)
     → places_of x ≡ row_from start (length b) → start + length b ≤ length (any_view a).bytes
-    → IsFileFound r ss b k a q x
-file_found law r ss k a q b x start nq regular form same planned run room =
+    → IsFileFound r ss base k b a q x
+file_found law r ss base k b a q x start asked regular form same planned run room =
     let image : List ℕ = (any_view a).bytes in
     let n : ℕ = length b in
     let len : length (places_of x) ≡ n = ap length run ∙ length_row start n in
     let part : part_of image start n ≡ b =
     row_bytes image (places_of x) start n (sym len)
     (λ j l. ap (λ (ps : List ℕ). slice_index ps j) run ∙ row_at start n j l) room ∙ same in
-    let whole = law a q x start nq regular (run ∙ ap (row_from start) (sym len)) (omega arith) in
+    let whole = law a q x start asked.mmu regular (run ∙ ap (row_from start) (sym len)) (omega arith) in
     let long = subst (λ (j : ℕ). IsFoundAs (shares_page image (start + j) j)
     (verdict_at (is_romfs a) (q.base + start) (part_of image start j)) start j (found_in a q x)) len whole in
-    let own = subst (λ (v : Bool). IsFoundAs (shares_page image (start + n) n)
-    (verdict_at v (q.base + start) (part_of image start n)) start n (found_in a q x)) form long in
+    let front = asked.front in
+    let verdict : verdict_at (is_romfs a) (q.base + start) (part_of image start n) ≡ verdict_at r (base + start) b =
+    ap (λ (v : Bool). verdict_at v (q.base + start) (part_of image start n)) form
+    ∙ ap (verdict_at r (q.base + start)) part
+    ∙ verdict_repeats r (q.base + start) (base + start) b (omega (arith, front)) in
     record {
       start = start;
       planned = planned;
       run = run;
-      found = subst (λ (v : List ℕ). IsFoundAs (shares_page image (start + n) n)
-          (verdict_at r (q.base + start) v) start n (found_in a q x)) part own;
+      found = subst (λ (v : Option Verdict). IsFoundAs (shares_page image (start + n) n) v start n (found_in a q x))
+          verdict long;
     }
 
 pub no_places : (ps : List ℕ) → length ps ≡ 0 → ps ≡ []
@@ -125,11 +132,11 @@ places_as image x b same =
     sym (length-map (places_of x) (λ (p : ℕ). slice_index image p)) ∙ ap length same
 
 -- the file at a path
-pub path_found : FoundByBytes → (f : Format) (m : ManifestLines) (cs : List (List ℕ)) (a : AnyImage) (q : Question)
-    → IsKnown f m cs a → q.no_mmu ≡ false → (path : List (List ℕ)) (x : Node) (i : Inode) (k : ℕ)
+pub path_found : FoundByBytes → (f : Format) (m : ManifestLines) (cs : List (List ℕ)) (base : ℕ) (a : AnyImage)
+    (q : Question) → IsKnown f m cs a → IsAskedAt base q → (path : List (List ℕ)) (x : Node) (i : Inode) (k : ℕ)
     → node_under path (any_view a).tree ≡ Some x → file_named m.lines (map length cs) path ≡ Some i → i.kind ≡ Regular
-    → i.fill ≡ source k → i.size ≡ length (get_or cs k []) → IsFoundOf f m cs k a q x
-path_found law f m cs a q known nq path x i k under named kind fill size =
+    → i.fill ≡ source k → i.size ≡ length (get_or cs k []) → IsFoundOf f m cs base k a q x
+path_found law f m cs base a q known asked path x i k under named kind fill size =
     let v : Image = any_view a in
     let sizes = map length cs in
     let b : List ℕ = get_or cs k [] in
@@ -141,23 +148,19 @@ path_found law f m cs a q known nq path x i k under named kind fill size =
     elim (eqb_tells (length b) 0) [
       | inl y ↦
           let none : places_of x ≡ [] = no_places (places_of x) (places_as v.bytes x b same ∙ y.1) in
-          file_found law (is_in_romfs f) ss k a q b x 0 nq regular known.format same (λ z. absurd (z y.1))
+          file_found law (is_in_romfs f) ss base k b a q x 0 asked regular known.format same (λ z. absurd (z y.1))
           (none ∙ ap (row_from 0) (sym y.1)) (let z = y.1 in omega arith)
       | inr y ↦
           let s = known.planned path x i k under named kind (λ z. y.1 (sym size ∙ z)) fill in
           let run : places_of x ≡ row_from s.start (length b) = s.run ∙ ap (row_from s.start) size in
-          file_found law (is_in_romfs f) ss k a q b x s.start nq regular known.format same
+          file_found law (is_in_romfs f) ss base k b a q x s.start asked regular known.format same
           (λ z. subst (λ (n : ℕ). Has (λ y. y ≡ section s.start n (source_bytes k)) ss) size s.section) run
           (inside v x (in_under path v.tree x under) s.start (length b) run (some (length b) y.1))
     ]
-  where
-    some : (n : ℕ) → n ≢ 0 → 0 < n
-    some zero z = absurd (z refl)
-    some (suc n) z = omega arith
 
-pub are_found : FoundByBytes → (f : Format) (m : ManifestLines) (cs : List (List ℕ)) (a : AnyImage) (q : Question)
-    → IsKnown f m cs a → q.no_mmu ≡ false → AreFound f m cs a q
-are_found law f m cs a q known nq l g n ns x has filed names under =
+pub are_found : FoundByBytes → (f : Format) (m : ManifestLines) (cs : List (List ℕ)) (base : ℕ) (a : AnyImage)
+    (q : Question) → IsKnown f m cs a → IsAskedAt base q → AreFound f m cs base a q
+are_found law f m cs base a q known asked l g n ns x has filed names under =
     let sizes = map length cs in
     let k : ℕ = sources_before g.number m.lines in
     let v = found m sizes l g n ns has filed names in
@@ -170,4 +173,4 @@ are_found law f m cs a q known nq l g n ns x has filed names under =
           let same : s.0 ≡ k = (let z : source s.0 ≡ source k = sym s.1 ∙ fill in cc) in
           s.2 ∙ ap (λ (j : ℕ). get_or sizes j 0) same ∙ sym (length_source cs k)
     ] in
-    path_found law f m cs a q known nq (n ∷ ns) x i k under v.is kind fill size
+    path_found law f m cs base a q known asked (n ∷ ns) x i k under v.is kind fill size

@@ -1,5 +1,5 @@
 -- In cramfs the bytes of each file with the contents of a source are where a section of the plan is.
-use Rattle.std.proofs.Common.{◌≡◌, ◌≢◌, ℕ, zero, suc, ◌+◌, ◌*◌, ◌%◌, ◌^◌, ◌<◌, ◌≤◌, List, [], ◌++◌, length, drop}
+use Rattle.std.proofs.Common.{◌≡◌, ◌≢◌, ℕ, ◌+◌, ◌*◌, ◌%◌, ◌^◌, ◌<◌, ◌≤◌, List, [], ◌++◌, length, drop}
 use Rattle.std.proofs.Common.{Some, inr, refl, sym, ap, subst, ◌∙◌, arith, length-append}
 use Rattle.std.proofs.lemmas.List.{length-drop}
 use Rattle.std.specs.List.{AllByRecursion as Every}
@@ -16,7 +16,7 @@ use Rattle.cramfs_format.specs.Tree.{blocks_from, by_type, kind_numbers, node_of
 use Rattle.rom_fields.specs.Parts.{HasAt}
 use Rattle.manifest_tree.specs.Files.{Placed, at_place}
 use Rattle.manifest_tree.specs.Items.{Item, Section, contents_of, section}
-use Rattle.manifest_tree.specs.Names.{Inode, Names, bytes_of, leaf, link, no_bytes, nothing, source, subdirectory}
+use Rattle.manifest_tree.specs.Names.{Inode, Names, bytes_of, leaf, link, nothing, source, subdirectory}
 use Rattle.manifest_tree.specs.Shape.{file_under, node_under, with_names}
 use Rattle.manifest_tree.proofs.Alike.{alike_some}
 use Rattle.cramfs_layout.specs.Items.{AreAlignedBy, below, entries, items_of, sections_of, start_by}
@@ -33,7 +33,7 @@ use Rattle.cramfs_layout.proofs.Stored.{data_after}
 use Rattle.cramfs_layout.proofs.Tabled.{IsBare, below_bare, entries_bare}
 use Rattle.cramfs_layout.proofs.Values.{IsAt, one_run}
 use Rattle.cramfs_layout.proofs.Whole.{all_spots}
-use Rattle.built_in_place.proofs.Owned.{IsOwned, Own, are_owned, owns, owns_rise}
+use Rattle.built_in_place.proofs.Owned.{IsOwned, Own, are_owned, no_source, owns, owns_rise, some}
 use Rattle.built_in_place.proofs.Sections.{IsAtSection, all_in_sections}
 
 -- the bytes of an item are a section
@@ -51,9 +51,6 @@ start_four : (cs : List (List ℕ)) (k : Kept) (from : ℕ) (i : Inode) → IsFi
 start_four cs nowhere from i h = refl
 start_four cs (shared t) from i h = (data_after cs t i h).1
 start_four cs fresh from i h = (data_after cs from i h).1
-
-no_source : {j : ℕ} (i : Inode) (A : Type 0) → i.fill ≡ no_bytes → i.fill ≡ source j → A
-no_source {j} i A e f = let z : no_bytes ≡ source j = sym e ∙ f in absurd (cc)
 
 files_planned : (o : Order) (b : List ℕ) (cs : List (List ℕ)) (ss : List Section) (high l : ℕ) (s : State) (n : Names)
     → AreWell cs n → AllRead o b cs high l s n → Every (λ i. IsFilled o cs b i × InPlan ss i) (entries o l s n)
@@ -92,10 +89,6 @@ ends_within : (b : List ℕ) (p : ℕ) (bytes : List ℕ) → HasAt b p bytes �
 ends_within b p bytes (back, e) h =
     let l : length (drop p b) ≡ length (bytes ++ back) = ap length e in
     omega (arith, l, length-drop p b, length-append bytes back, h)
-
-some : (n : ℕ) → n ≢ 0 → 0 < n
-some zero z = absurd (z refl)
-some (suc n) z = omega arith
 
 -- the offsets in a table of blocks one after the other
 table_run : (o : Order) (b : List ℕ) (cs : List (List ℕ)) (i : Inode) (t d : ℕ) → length b ≤ 2 ^ 28

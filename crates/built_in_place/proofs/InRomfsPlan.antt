@@ -12,7 +12,7 @@ use Rattle.romfs_format.specs.Record.{end_of, pad16, size_of, type_of}
 use Rattle.romfs_format.specs.Tree.{by_type, kind_numbers, node_of, places_at}
 use Rattle.manifest_tree.specs.Files.{Placed, at_place}
 use Rattle.manifest_tree.specs.Items.{bytes_section, contents_of, section}
-use Rattle.manifest_tree.specs.Names.{Inode, Names, leaf, link, no_bytes, nothing, source, subdirectory}
+use Rattle.manifest_tree.specs.Names.{Inode, Names, leaf, link, nothing, source, subdirectory}
 use Rattle.manifest_tree.specs.Shape.{file_under, node_under, with_names}
 use Rattle.manifest_tree.proofs.Alike.{alike_some}
 use Rattle.romfs_layout.specs.Items.{item_of, items_of, sections_from, sections_of}
@@ -25,7 +25,7 @@ use Rattle.romfs_layout.proofs.Files.{IsAt}
 use Rattle.romfs_layout.proofs.Image.{is_image, tree_in}
 use Rattle.romfs_layout.proofs.Paths.{IsEnd}
 use Rattle.romfs_layout.proofs.Shaped.{IsOne, all_placed, bytes_in, ends_alike}
-use Rattle.built_in_place.proofs.Owned.{has_left, has_right}
+use Rattle.built_in_place.proofs.Owned.{has_left, has_right, no_source}
 use Rattle.built_in_place.proofs.Sections.{IsAtSection}
 
 -- the header says that these bytes are at p
@@ -36,9 +36,6 @@ Says p size k h = (h.start ≡ p) × (h.size ≡ size) × (h.fill ≡ source k)
 abbrev IsHeaded : List ℕ → List Header → Placed → Type 0
 IsHeaded b is x =
     x.inode.size ≢ 0 → (k : ℕ) → x.inode.fill ≡ source k → Has (Says (end_of b x.place) x.inode.size k) is
-
-no_source : {j : ℕ} (i : Inode) (A : Type 0) → i.fill ≡ no_bytes → i.fill ≡ source j → A
-no_source {j} i A e f = let z : no_bytes ≡ source j = sym e ∙ f in absurd (cc)
 
 files_headed : (b : List ℕ) (cs : List (List ℕ)) (is : List Header) (at' : ℕ → ℕ) (dir from : ℕ) (n : Names)
     → AreWell cs n → Every (Reads b cs) (headers at' dir from n)

@@ -13,3 +13,4 @@ pub mod Known
 pub mod NotRefused
 pub mod Reached
 pub mod Totals
+pub mod Repeats

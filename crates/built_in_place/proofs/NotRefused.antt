@@ -22,7 +22,7 @@ use Rattle.program_report.specs.declared.finding.Found.{Found}
 use Rattle.program_report.specs.declared.finding.Verdict.{Verdict}
 use Rattle.program_report.specs.declared.finding.Verdict.TheVariants.{InPlace, Not}
 use Rattle.program_report.specs.declared.question.Question.{Question}
-use Rattle.built_in_place.specs.Programs.{HasNoRefused, IsNotRefused}
+use Rattle.built_in_place.specs.Programs.{HasNoRefused, IsAskedAt, IsNotRefused}
 use Rattle.built_in_place.proofs.Contents.{contents_at, length_source, named_sourced}
 use Rattle.built_in_place.proofs.Found.{FoundByBytes, IsKnown, no_places, path_found, places_as}
 use Rattle.built_in_place.proofs.Regular.{same_kind, value_at}
@@ -60,17 +60,18 @@ regular_kind (node a fifo) e = absurd (cc)
 no_value : (v : Value) → Some v ≡ None → ⊥
 no_value v e = cc
 
-pub path_fine : FoundByBytes → (f : Format) (m : ManifestLines) (cs : List (List ℕ)) (a : AnyImage) (q : Question)
-    → IsKnown f m cs a → q.no_mmu ≡ false → HasNoRefused f m cs q.base → (path : List (List ℕ)) (x : Node)
+pub path_fine : FoundByBytes → (f : Format) (m : ManifestLines) (cs : List (List ℕ)) (base : ℕ) (a : AnyImage)
+    (q : Question) → IsKnown f m cs a → IsAskedAt base q → HasNoRefused f m cs base → (path : List (List ℕ)) (x : Node)
     → node_under path (any_view a).tree ≡ Some x → IsFine (found_in a q x)
-path_fine law f m cs a q known nq none path x under = by (is_regular x) refl
+path_fine law f m cs base a q known asked none path x under = by (is_regular x) refl
   where
     -- the contents of a source
     of_source : (i : Inode) (k : ℕ) → is_regular x ≡ true → file_named m.lines (map length cs) path ≡ Some i
         → i.kind ≡ kind.Regular → i.fill ≡ source k → i.size ≡ get_or (map length cs) k 0 → IsFine (found_in a q x)
     of_source i k e named is fill size =
         let b : List ℕ = get_or cs k [] in
-        let r = path_found law f m cs a q known nq path x i k under named is fill (size ∙ sym (length_source cs k)) in
+        let long : i.size ≡ length b = size ∙ sym (length_source cs k) in
+        let r = path_found law f m cs base a q known asked path x i k under named is fill long in
         elim (eqb_tells (length b) 0) [
           | inl y ↦ empty_fine a q x e (r.run ∙ ap (row_from r.start) y.1)
           | inr y ↦ fine_found _ _ r.start (length b) (found_in a q x) r.found

@@ -72,6 +72,10 @@ one_own from to (z ∷ zs) x y h (inr m) (inl q) e =
     let t = ap (λ (v : Own). v.table) q in absurd (omega (arith, t, e))
 one_own from to (z ∷ zs) x y h (inr m) (inr n) e = one_own (z.table + 1) to zs x y h.1 m n e
 
+pub some : (n : ℕ) → n ≢ 0 → 0 < n
+some zero z = absurd (z refl)
+some (suc n) z = omega arith
+
 own_rises : (cs : List (List ℕ)) (s : State) (i : Inode) (k : Kept) → IsFile cs i → kept s.tables i ≡ k
     → Rise s.at (after_by k s i).at (own_of k s i)
 unfolding kept
@@ -84,10 +88,6 @@ own_rises cs s i fresh h e = elim (eqb_tells i.size 0) [
       let n : 0 < i.size = some i.size y.1 in
       (omega arith, omega (arith, d, n))
 ]
-  where
-    some : (n : ℕ) → n ≢ 0 → 0 < n
-    some zero z = absurd (z refl)
-    some (suc n) z = omega arith
 
 pub owns_rise : (cs : List (List ℕ)) (s : State) (n : Names) → AreWell cs n → Rise s.at (after_names s n).at (owns s n)
 owns_rise cs s nothing h = omega arith
@@ -233,3 +233,7 @@ pub are_owned : (o : Order) (cs : List (List ℕ)) (A : ℕ → ℕ) (l : ℕ) (
     → AreWell cs n → AreAlignedBy A n → AreOwned o cs A (owns s n) l s n
 are_owned o cs A l s n none h a =
     all_owned o cs A (owns s n) l s n h a (λ x m. m) (subst (Every (TableOwned cs A (owns s n))) (sym none) tt)
+
+-- a file without bytes has those of no source
+pub no_source : {k : ℕ} (i : Inode) (A : Type 0) → i.fill ≡ no_bytes → i.fill ≡ source k → A
+no_source {k} i A e f = let z : no_bytes ≡ source k = sym e ∙ f in absurd (cc)

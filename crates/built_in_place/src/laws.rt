@@ -1,8 +1,9 @@
 //! What Linux maps of the files of a built image.
-ghost use Rattle.std.specs.Prelude.{◌≡◌, ◌<◌, ◌^◌, ℕ, IfSome, List, Ok, Option, Some, false};
+ghost use Rattle.std.specs.Prelude.{◌≡◌, ◌<◌, ◌^◌, ℕ, IfSome, List, Ok, Option, Some};
 ghost use Rattle.std.specs.Prelude.{length, map};
 ghost use Rattle.built_in_place.specs.Files.{AreInPlace, AreMappedWhole, HoldsImage};
-ghost use Rattle.built_in_place.specs.Programs.{AreFound, HasNoRefused, IsAccepted, IsNotRefused};
+ghost use Rattle.built_in_place.specs.Programs.{AreFound, HasNoRefused, IsAccepted, IsAskedAt};
+ghost use Rattle.built_in_place.specs.Programs.{IsNotRefused};
 ghost use Rattle.built_in_place.specs.Romfs.{AreMappedInRomfs, FillsPages};
 ghost use Rattle.cramfs_format.specs.declared.order.Order.{Order};
 ghost use Rattle.program_pages.specs.Physmem.{Flash};
@@ -89,9 +90,9 @@ pub fn streamed_is_in_place()
 /// place as well, if no other data are in it.
 pub fn built_is_found()
     ensures { (f : Format) (text : List ℕ) (contents : List (List ℕ)) (bytes : List ℕ)
-        (m : ManifestLines) (a : AnyImage) (q : Question) → Builds f text contents (Ok bytes)
-        → manifest_of text ≡ Ok m → IsAccepted bytes a → q.no_mmu ≡ false
-        → AreFound f m contents a q }
+        (m : ManifestLines) (base : ℕ) (a : AnyImage) (q : Question)
+        → Builds f text contents (Ok bytes) → manifest_of text ≡ Ok m → IsAccepted bytes a
+        → IsAskedAt base q → AreFound f m contents base a q }
 {
     image_check::laws::one_tree();
     manifest_layout::laws::fitting_is_planned();
@@ -102,15 +103,15 @@ pub fn built_is_found()
 /// any path of the built image: it has no line `not`, and counts none.
 pub fn planned_is_not_refused()
     ensures found { (f : Format) (text : List ℕ) (contents : List (List ℕ)) (bytes : List ℕ)
-        (m : ManifestLines) (a : AnyImage) (q : Question) (path : List (List ℕ)) (x : Node)
-        → Builds f text contents (Ok bytes) → manifest_of text ≡ Ok m → IsAccepted bytes a
-        → q.no_mmu ≡ false → HasNoRefused f m contents q.base
+        (m : ManifestLines) (base : ℕ) (a : AnyImage) (q : Question) (path : List (List ℕ))
+        (x : Node) → Builds f text contents (Ok bytes) → manifest_of text ≡ Ok m
+        → IsAccepted bytes a → IsAskedAt base q → HasNoRefused f m contents base
         → node_under path (any_view a).tree ≡ Some x
         → IfSome (found_in a q x) (λ v. IsNotRefused v.verdict) }
     ensures total { (f : Format) (text : List ℕ) (contents : List (List ℕ)) (bytes : List ℕ)
-        (m : ManifestLines) (a : AnyImage) (q : Question) → Builds f text contents (Ok bytes)
-        → manifest_of text ≡ Ok m → IsAccepted bytes a → q.no_mmu ≡ false
-        → HasNoRefused f m contents q.base → (tally_of a q).not ≡ 0 }
+        (m : ManifestLines) (base : ℕ) (a : AnyImage) (q : Question)
+        → Builds f text contents (Ok bytes) → manifest_of text ≡ Ok m → IsAccepted bytes a
+        → IsAskedAt base q → HasNoRefused f m contents base → (tally_of a q).not ≡ 0 }
 {
     image_check::laws::one_tree();
     manifest_layout::laws::fitting_is_planned();
@@ -121,13 +122,13 @@ pub fn planned_is_not_refused()
 /// copy: it has some contents of the planned sizes.
 pub fn streamed_is_found()
     ensures { (text : List ℕ) (p : Planned) (known : Option (List (List ℕ)))
-        (old new : Option (List ℕ)) (a : AnyImage) (q : Question) → (is : IsPlanOfText text p)
-        → HasNoCopies p.format is.lines
+        (old new : Option (List ℕ)) (base : ℕ) (a : AnyImage) (q : Question)
+        → (is : IsPlanOfText text p) → HasNoCopies p.format is.lines
         → (w : IsWritten known (form_in p.format p) (stored_in p.format) old new)
-        → IsAccepted (image_with p w.rest) a → q.no_mmu ≡ false
+        → IsAccepted (image_with p w.rest) a → IsAskedAt base q
         → (contents : List (List ℕ)) × (map length contents ≡ p.sizes)
-        × AreFound p.format is.lines contents a q
-        × (HasNoRefused p.format is.lines contents q.base → (tally_of a q).not ≡ 0) }
+        × AreFound p.format is.lines contents base a q
+        × (HasNoRefused p.format is.lines contents base → (tally_of a q).not ≡ 0) }
 {
     image_build::laws::streamed_is_accepted();
     built_is_found();

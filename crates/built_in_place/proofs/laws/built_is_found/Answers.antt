@@ -3,6 +3,6 @@ use Rattle.built_in_place.proofs.Known.{known}
 use Rattle.built_in_place.proofs.laws.built_is_found.Goals as goal
 
 pub returns : goal.returns
-returns c = λ f text cs bytes m a q x e ok nq.
-    are_found c.planned_is_found.ensures f m cs a q
-    (known c.one_tree.ensures c.fitting_is_planned.ensures f text cs bytes m a x e ok) nq
+returns c = λ f text cs bytes m base a q x e ok asked.
+    are_found c.planned_is_found.ensures f m cs base a q
+    (known c.one_tree.ensures c.fitting_is_planned.ensures f text cs bytes m a x e ok) asked
