@@ -1,11 +1,12 @@
 -- The bytes of a file of a built image are the contents of the source of its `file` line.
-use Rattle.std.proofs.Common.{◌≡◌, ℕ, ◌||◌, true, false, cond, List, [], ◌∷◌, reverse}
-use Rattle.std.proofs.Common.{Option, Some, None, refl, sym, ap, subst, ◌∙◌}
+use Rattle.std.proofs.Common.{◌≡◌, ℕ, zero, suc, ◌||◌, true, false, ◌⊎◌, cond, List, [], ◌∷◌, find, get_or, length, map}
+use Rattle.std.proofs.Common.{reverse, Option, Some, None, inl, inr, refl, sym, ap, subst, ◌∙◌}
 use Rattle.std.proofs.lemmas.List.{reverse-reverse}
 use Rattle.std.specs.Cmp.Lexicographic.{bytes_decides, nat_list_eq_equiv}
+use Rattle.std.specs.Option.{option_and_then, option_map}
 use Rattle.std.specs.Str.{bytes_eq}
-use Rattle.record_forest.specs.Members.{Has}
 use Rattle.record_forest.proofs.Lists.{has_of}
+use Rattle.rom_tree.specs.declared.types.Kind.TheVariants.{Regular}
 use Rattle.rom_tree.specs.Image.{contents_of}
 use Rattle.rom_tree.specs.Tree.{Node}
 use Rattle.manifest.specs.declared.line.Line.{Line}
@@ -16,12 +17,12 @@ use Rattle.manifest.specs.Lines.{ManifestLines, is_file, is_hard, is_same, led, 
 use Rattle.manifest.specs.Paths.{names_of}
 use Rattle.manifest.proofs.Checked.{AreChecked, checked_lines, sound_place}
 use Rattle.manifest_tree.specs.Meant.{IsMeant}
-use Rattle.manifest_tree.specs.Names.{Inode, bytes_of, source}
+use Rattle.manifest_tree.specs.Names.{Inode, bytes_of, no_bytes, source}
 use Rattle.manifest_tree.specs.Shape.{Value, file_value, node_under, node_value}
-use Rattle.manifest_tree.specs.Tree.{inode_by, inode_of, sources_before, with_contents}
+use Rattle.manifest_tree.specs.Tree.{bare_root, file_at, file_named, inode_by, inode_of, is_named, or_else, root_of}
+use Rattle.manifest_tree.specs.Tree.{sources_before, with_contents}
 use Rattle.manifest_layout.proofs.Led.{led_member, no_path}
-use Rattle.built_in_place.specs.Programs.{contents_by}
-use Rattle.built_in_place.proofs.Regular.{value_at}
+use Rattle.built_in_place.proofs.Regular.{IsFound, value_at}
 
 same_line : (k l : Line) → Some k ≡ Some l → k ≡ l
 same_line k l e = cc
@@ -84,16 +85,78 @@ same_bytes : (image : List ℕ) (contents : List (List ℕ)) (x : Node) (i : Ino
 unfolding node_value file_value
 same_bytes image contents x i e = ap (λ (w : Value). w.bytes) e
 
--- The node at the path of a line has the contents of its `file` line.
+-- the node at a path has the bytes of the file there
 pub contents_at : (image : List ℕ) (t : Node) (contents : List (List ℕ)) (m : ManifestLines) (sizes : List ℕ)
-    → IsManifest m → IsMeant image t contents m sizes → (l g : Line) (n : List ℕ) (ns : List (List ℕ)) (x : Node)
-    → Has (λ z. z ≡ l) m.lines → filed (reverse m.lines) l.path ≡ Some g → names_of l.path ≡ Some (n ∷ ns)
-    → node_under (n ∷ ns) t ≡ Some x → contents_of image x ≡ contents_by m contents g
-contents_at image t contents m sizes is meant l g n ns x here f e under =
-    let all = m.lines in
+    → IsMeant image t contents m sizes → (q : List (List ℕ)) (x : Node) (i : Inode) → node_under q t ≡ Some x
+    → file_named m.lines sizes q ≡ Some i → contents_of image x ≡ bytes_of contents i.fill
+contents_at image t contents m sizes meant q x i under is =
+    same_bytes image contents x i (value_at image t contents m sizes meant q x i under is)
+
+-- at the path of a line these are those of the source of its `file` line
+pub filled_by : (m : ManifestLines) (sizes : List ℕ) → IsManifest m → (l g : Line) (q : List (List ℕ))
+    → filed (reverse m.lines) l.path ≡ Some g → (v : IsFound m sizes l.path q)
+    → (inode_of m.lines sizes v.line).fill ≡ source (sources_before g.number m.lines)
+filled_by m sizes is l g q f v =
     let c = checked_lines m is.0 is.1 in
-    let back : c.latest ≡ reverse all = sym (ap reverse c.reversed ∙ reverse-reverse c.latest) in
-    let v = value_at image t contents m sizes meant l g n ns x here f e under in
-    let own = filed_same (reverse all) (subst AreChecked back c.checked) v.0.line g l.path v.0.leads f in
-    same_bytes image contents x (inode_of all sizes v.0.line) v.1
-    ∙ ap (bytes_of contents) (fill_is all sizes v.0.line g v.0.makes own)
+    let back : c.latest ≡ reverse m.lines = sym (ap reverse c.reversed ∙ reverse-reverse c.latest) in
+    fill_is m.lines sizes v.line g v.makes
+    (filed_same (reverse m.lines) (subst AreChecked back c.checked) v.line g l.path v.leads f)
+
+-- a regular file is empty, or has the contents and the size of a source
+abbrev pub IsSourced : List ℕ → Inode → Type 0
+IsSourced sizes i =
+    i.kind ≡ Regular
+    → (i.fill ≡ no_bytes) ⊎ ((k : ℕ) × (i.fill ≡ source k) × (i.size ≡ get_or sizes k 0))
+
+contents_sourced : (all : List Line) (sizes : List ℕ) (l : Line) (o : Option Line)
+    → IsSourced sizes (with_contents all sizes l o)
+contents_sourced all sizes l None z = inl refl
+contents_sourced all sizes l (Some o) z = inr (sources_before o.number all, refl, refl)
+
+inode_sourced : (all : List Line) (sizes : List ℕ) (l : Line) (w : Word) → IsSourced sizes (inode_by all sizes w l)
+inode_sourced all sizes l File = contents_sourced all sizes l (filed (reverse all) l.path)
+inode_sourced all sizes l Same = contents_sourced all sizes l (filed (reverse all) l.path)
+inode_sourced all sizes l Hard = λ z. inl refl
+inode_sourced all sizes l Dir = λ z. absurd (cc)
+inode_sourced all sizes l Slink = λ z. absurd (cc)
+inode_sourced all sizes l Block = λ z. absurd (cc)
+inode_sourced all sizes l Character = λ z. absurd (cc)
+inode_sourced all sizes l Fifo = λ z. absurd (cc)
+inode_sourced all sizes l Socket = λ z. absurd (cc)
+
+line_sourced : (all : List Line) (sizes : List ℕ) (l : Line) → IsSourced sizes (inode_of all sizes l)
+unfolding inode_of
+line_sourced all sizes l = inode_sourced all sizes l l.word
+
+same_inode : (i j : Inode) → Some i ≡ Some j → i ≡ j
+same_inode i j e = cc
+
+at_sourced : (all : List Line) (sizes p : List ℕ) (i : Inode) → file_at all sizes p ≡ Some i → IsSourced sizes i
+unfolding file_at
+at_sourced all sizes p i e = by (led (reverse all) p) e
+  where
+    by : (o : Option Line) → option_map (inode_of all sizes) o ≡ Some i → IsSourced sizes i
+    by None e = absurd (cc)
+    by (Some l) e = subst (IsSourced sizes) (same_inode (inode_of all sizes l) i e) (line_sourced all sizes l)
+
+-- so is the file at each path
+pub named_sourced : (all : List Line) (sizes : List ℕ) (q : List (List ℕ)) (i : Inode)
+    → file_named all sizes q ≡ Some i → IsSourced sizes i
+unfolding root_of
+named_sourced all sizes [] i e =
+    subst (IsSourced sizes) (same_inode (root_of all sizes) i e) (by (file_at all sizes (47 ∷ [])) refl)
+  where
+    by : (o : Option Inode) → file_at all sizes (47 ∷ []) ≡ o → IsSourced sizes (or_else bare_root o)
+    by None f = λ z. absurd (cc)
+    by (Some j) f = at_sourced all sizes (47 ∷ []) j f
+named_sourced all sizes (n ∷ ns) i e = by (find (λ l. is_named (n ∷ ns) (names_of l.path)) all) e
+  where
+    by : (o : Option Line) → option_and_then (λ (l : Line). file_at all sizes l.path) o ≡ Some i → IsSourced sizes i
+    by None e = absurd (cc)
+    by (Some l) e = at_sourced all sizes l.path i e
+
+-- the length of the contents of a source
+pub length_source : (cs : List (List ℕ)) (k : ℕ) → length (get_or cs k []) ≡ get_or (map length cs) k 0
+length_source [] k = refl
+length_source (c ∷ cs) zero = refl
+length_source (c ∷ cs) (suc k) = length_source cs k

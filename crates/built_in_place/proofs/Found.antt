@@ -1,9 +1,12 @@
 -- What is found of the files of a built image.
-use Rattle.std.proofs.Common.{◌≡◌, ℕ, ◌+◌, ◌-◌, ◌*◌, ◌<◌, ◌≤◌, Bool, true, false, List, [], ◌∷◌, length}
-use Rattle.std.proofs.Common.{inl, inr, refl, sym, ap, subst, ◌∙◌, arith}
+use Rattle.std.proofs.Common.{◌≡◌, ◌≢◌, ℕ, ◌+◌, ◌-◌, ◌<◌, ◌≤◌, Bool, true, false, List, [], ◌∷◌, get_or}
+use Rattle.std.proofs.Common.{length, map, Option, Some, inl, inr, refl, sym, ap, subst, ◌∙◌, arith}
+use Rattle.std.proofs.lemmas.Bool.Decides.{eqb_tells}
 use Rattle.std.proofs.lemmas.List.{length-map}
 use Rattle.std.specs.Prelude.{slice_index}
+use Rattle.record_forest.specs.Members.{Has}
 use Rattle.rom_fields.specs.Words.{part_of}
+use Rattle.rom_tree.specs.declared.types.Kind.TheVariants.{Regular}
 use Rattle.rom_tree.specs.Image.{Image, contents_of}
 use Rattle.rom_tree.specs.Tree.{Node, IsIn, is_regular, nodes, places_of, row_from}
 use Rattle.rom_tree.specs.declared.types.Report.{Report}
@@ -12,7 +15,7 @@ use Rattle.rom_tree.proofs.Rows.{row_bytes}
 use Rattle.formats.specs.Format.{Format, romfs, cramfs}
 use Rattle.cramfs_format.specs.Superblock.{order_of}
 use Rattle.image_build.specs.Accepted.{usual}
-use Rattle.image_check.specs.Any.{any_view, report_of}
+use Rattle.image_check.specs.Any.{any_view}
 use Rattle.image_check.specs.Checked.{HasFormat, HasTree, Shows}
 use Rattle.image_check.specs.Checked as shown
 use Rattle.image_check.specs.declared.any.AnyImage.{AnyImage}
@@ -20,16 +23,24 @@ use Rattle.image_check.specs.declared.any.AnyImage.TheVariants as any
 use Rattle.image_check.proofs.Formats.{apart, romfs_begins}
 use Rattle.manifest.specs.Grammar.{IsManifest}
 use Rattle.manifest.specs.Lines.{ManifestLines}
-use Rattle.manifest_layout.specs.Format.{HasUsualTree}
-use Rattle.manifest_layout.specs.Placement.{IsPlaced}
+use Rattle.manifest_layout.specs.Format.{HasUsualTree, sections_of}
+use Rattle.manifest_tree.specs.Items.{Section, contents_of as source_bytes, section}
 use Rattle.manifest_tree.specs.Meant.{IsMeant}
+use Rattle.manifest_tree.specs.Names.{Inode, bytes_of, no_bytes, source}
+use Rattle.manifest_tree.specs.Shape.{node_under}
+use Rattle.manifest_tree.specs.Tree.{file_named, inode_of, sources_before}
 use Rattle.program_pages.specs.Physmem.{shares_page}
 use Rattle.program_report.specs.Alike.{IsFoundAs}
 use Rattle.program_report.specs.Found.{found_in, is_romfs, verdict_at}
+use Rattle.program_report.specs.declared.finding.Verdict.{Verdict}
 use Rattle.program_report.specs.declared.question.Question.{Question}
-use Rattle.built_in_place.specs.Programs.{AreFound, IsAccepted, IsFileFound, contents_by, is_in_romfs}
-use Rattle.built_in_place.proofs.Contents.{contents_at}
-use Rattle.built_in_place.proofs.Regular.{regular_at}
+use Rattle.built_in_place.specs.Programs.{AreFound, IsAskedAt, IsFileFound, IsFoundOf, is_in_romfs}
+use Rattle.built_in_place.proofs.Contents.{contents_at, filled_by, length_source, named_sourced}
+use Rattle.built_in_place.proofs.Owned.{some}
+use Rattle.built_in_place.proofs.Planned.{AreAtSections}
+use Rattle.built_in_place.proofs.Reached.{HavePaths}
+use Rattle.built_in_place.proofs.Regular.{by_kind, found, kind_is, same_kind, value_at}
+use Rattle.built_in_place.proofs.Repeats.{verdict_repeats}
 use Rattle.built_in_place.proofs.Under.{in_under}
 
 -- the image is of the format in which it was built
@@ -39,6 +50,11 @@ same_format romfs bytes t (any.Romfs s) h k = refl
 same_format romfs bytes t (any.Cramfs s) h k = absurd (apart (order_of bytes) bytes (romfs_begins h) k.0.1)
 same_format (cramfs o) bytes t (any.Romfs s) h k = absurd (apart o bytes k h.super.begins)
 same_format (cramfs o) bytes t (any.Cramfs s) h k = refl
+
+-- the tree of a format is one
+pub usual_tree : (f : Format) (bytes : List ℕ) (t : Node) → HasUsualTree f bytes t → HasTree bytes usual t
+usual_tree romfs bytes t h = inl h
+usual_tree (cramfs o) bytes t h = inr (o, h)
 
 -- it has the tree of these bytes
 pub shown_tree : (bytes : List ℕ) (m : Image) (r : Report) → Shows bytes usual m r → HasTree bytes usual m.tree
@@ -68,52 +84,93 @@ FoundByBytes =
     (verdict_at (is_romfs a) (q.base + start)
     (part_of (any_view a).bytes start (length (places_of x)))) start (length (places_of x)) (found_in a q x)
 
+-- what is known of a built image that was accepted
+pub record IsKnown (f : Format) (m : ManifestLines) (cs : List (List ℕ)) (a : AnyImage) : Type 0 where
+  pub manifest : IsManifest m
+  pub format : is_romfs a ≡ is_in_romfs f
+  pub meant : IsMeant (any_view a).bytes (any_view a).tree cs m (map length cs)
+  pub planned : AreAtSections f m cs (any_view a).tree
+  pub paths : HavePaths (any_view a).tree
+
 -- a file whose bytes are in one run
-file_found : FoundByBytes → (f : Format) (a : AnyImage) (q : Question) (b : List ℕ) (x : Node) (start : ℕ)
-    → q.no_mmu ≡ false → is_regular x ≡ true → is_romfs a ≡ is_in_romfs f → contents_of (any_view a).bytes x ≡ b
-    → places_of x ≡ row_from start (length b) → start + length b ≤ length (any_view a).bytes → IsFileFound f a q b x
-file_found law f a q b x start nq regular form same run room =
+file_found : FoundByBytes → (r : Bool) (ss : List Section) (base k : ℕ) (b : List ℕ) (a : AnyImage) (q : Question)
+    (x : Node) (start : ℕ) → IsAskedAt base q → is_regular x ≡ true → is_romfs a ≡ r
+    → contents_of (any_view a).bytes x ≡ b
+    → (length b ≢ 0 → Has (λ s. s ≡ section start (length b) (source_bytes k)) ss)
+    → places_of x ≡ row_from start (length b) → start + length b ≤ length (any_view a).bytes
+    → IsFileFound r ss base k b a q x
+file_found law r ss base k b a q x start asked regular form same planned run room =
     let image : List ℕ = (any_view a).bytes in
     let n : ℕ = length b in
     let len : length (places_of x) ≡ n = ap length run ∙ length_row start n in
     let part : part_of image start n ≡ b =
     row_bytes image (places_of x) start n (sym len)
-    (λ k l. ap (λ (ps : List ℕ). slice_index ps k) run ∙ row_at start n k l) room ∙ same in
-    let whole = law a q x start nq regular (run ∙ ap (row_from start) (sym len)) (omega arith) in
-    let long = subst (λ (k : ℕ). IsFoundAs (shares_page image (start + k) k)
-    (verdict_at (is_romfs a) (q.base + start) (part_of image start k)) start k (found_in a q x)) len whole in
-    let own = subst (λ (v : Bool). IsFoundAs (shares_page image (start + n) n)
-    (verdict_at v (q.base + start) (part_of image start n)) start n (found_in a q x)) form long in
+    (λ j l. ap (λ (ps : List ℕ). slice_index ps j) run ∙ row_at start n j l) room ∙ same in
+    let whole = law a q x start asked.mmu regular (run ∙ ap (row_from start) (sym len)) (omega arith) in
+    let long = subst (λ (j : ℕ). IsFoundAs (shares_page image (start + j) j)
+    (verdict_at (is_romfs a) (q.base + start) (part_of image start j)) start j (found_in a q x)) len whole in
+    let front = asked.front in
+    let verdict : verdict_at (is_romfs a) (q.base + start) (part_of image start n) ≡ verdict_at r (base + start) b =
+    ap (λ (v : Bool). verdict_at v (q.base + start) (part_of image start n)) form
+    ∙ ap (verdict_at r (q.base + start)) part
+    ∙ verdict_repeats r (q.base + start) (base + start) b (omega (arith, front)) in
     record {
       start = start;
+      planned = planned;
       run = run;
-      found = subst (λ (v : List ℕ). IsFoundAs (shares_page image (start + n) n)
-          (verdict_at (is_in_romfs f) (q.base + start) v) start n (found_in a q x)) part own;
+      found = subst (λ (v : Option Verdict). IsFoundAs (shares_page image (start + n) n) v start n (found_in a q x))
+          verdict long;
     }
 
-pub found_by : FoundByBytes → (f : Format) (a : AnyImage) (q : Question) (b : List ℕ) (x : Node) (start : ℕ)
-    → q.no_mmu ≡ false → is_regular x ≡ true → IsIn x (nodes (any_view a).tree) → is_romfs a ≡ is_in_romfs f
-    → contents_of (any_view a).bytes x ≡ b → places_of x ≡ row_from start (length b) → IsFileFound f a q b x
-found_by law f a q [] x start nq regular i form same run =
-    file_found law f a q [] x 0 nq regular form same run (omega arith)
-found_by law f a q (c ∷ cs) x start nq regular i form same run =
-    file_found law f a q (c ∷ cs) x start nq regular form same run
-    (inside (any_view a) x i start (length (c ∷ cs)) run (omega arith))
+pub no_places : (ps : List ℕ) → length ps ≡ 0 → ps ≡ []
+no_places [] e = refl
+no_places (p ∷ ps) e = absurd (omega (arith, e))
 
-pub are_found : FoundByBytes → (f : Format) (bytes : List ℕ) (m : ManifestLines) (contents : List (List ℕ))
-    (sizes : List ℕ) (t : Node) (a : AnyImage) (q : Question) → IsManifest m → IsAccepted bytes a
-    → HasUsualTree f bytes t → IsMeant bytes (any_view a).tree contents m sizes → IsPlaced (any_view a).tree m
-    → q.no_mmu ≡ false → AreFound f m contents a q
-are_found law f bytes m contents sizes t a q is ok tree meant placed nq l g n ns x has filed names under =
+-- as many places as bytes
+pub places_as : (image : List ℕ) (x : Node) (b : List ℕ) → contents_of image x ≡ b → length (places_of x) ≡ length b
+places_as image x b same =
+    sym (length-map (places_of x) (λ (p : ℕ). slice_index image p)) ∙ ap length same
+
+-- the file at a path
+pub path_found : FoundByBytes → (f : Format) (m : ManifestLines) (cs : List (List ℕ)) (base : ℕ) (a : AnyImage)
+    (q : Question) → IsKnown f m cs a → IsAskedAt base q → (path : List (List ℕ)) (x : Node) (i : Inode) (k : ℕ)
+    → node_under path (any_view a).tree ≡ Some x → file_named m.lines (map length cs) path ≡ Some i → i.kind ≡ Regular
+    → i.fill ≡ source k → i.size ≡ length (get_or cs k []) → IsFoundOf f m cs base k a q x
+path_found law f m cs base a q known asked path x i k under named kind fill size =
     let v : Image = any_view a in
-    let b : List ℕ = contents_by m contents g in
-    let regular = regular_at bytes v.tree contents m sizes meant l g n ns x has filed names under in
-    let held = contents_at bytes v.tree contents m sizes is meant l g n ns x has filed names under in
+    let sizes = map length cs in
+    let b : List ℕ = get_or cs k [] in
+    let ss = sections_of f m sizes in
+    let value = value_at v.bytes v.tree cs m sizes known.meant path x i under named in
+    let regular = by_kind x (same_kind v.bytes cs x i value ∙ kind) in
     let same : contents_of v.bytes x ≡ b =
-    ap (λ (c : List ℕ). contents_of c x) (shown_bytes bytes v (report_of a) ok.shows) ∙ held in
-    let len : length (places_of x) ≡ length b =
-    sym (length-map (places_of x) (λ (p : ℕ). slice_index v.bytes p)) ∙ ap length same in
-    let r = placed l g n ns x has filed names under in
-    let start : ℕ = r.0 * g.align in
-    found_by law f a q b x start nq regular (in_under (n ∷ ns) v.tree x under)
-    (same_format f bytes t a tree ok.format) same (r.1 ∙ ap (row_from start) len)
+    contents_at v.bytes v.tree cs m sizes known.meant path x i under named ∙ ap (bytes_of cs) fill in
+    elim (eqb_tells (length b) 0) [
+      | inl y ↦
+          let none : places_of x ≡ [] = no_places (places_of x) (places_as v.bytes x b same ∙ y.1) in
+          file_found law (is_in_romfs f) ss base k b a q x 0 asked regular known.format same (λ z. absurd (z y.1))
+          (none ∙ ap (row_from 0) (sym y.1)) (let z = y.1 in omega arith)
+      | inr y ↦
+          let s = known.planned path x i k under named kind (λ z. y.1 (sym size ∙ z)) fill in
+          let run : places_of x ≡ row_from s.start (length b) = s.run ∙ ap (row_from s.start) size in
+          file_found law (is_in_romfs f) ss base k b a q x s.start asked regular known.format same
+          (λ z. subst (λ (n : ℕ). Has (λ y. y ≡ section s.start n (source_bytes k)) ss) size s.section) run
+          (inside v x (in_under path v.tree x under) s.start (length b) run (some (length b) y.1))
+    ]
+
+pub are_found : FoundByBytes → (f : Format) (m : ManifestLines) (cs : List (List ℕ)) (base : ℕ) (a : AnyImage)
+    (q : Question) → IsKnown f m cs a → IsAskedAt base q → AreFound f m cs base a q
+are_found law f m cs base a q known asked l g n ns x has filed names under =
+    let sizes = map length cs in
+    let k : ℕ = sources_before g.number m.lines in
+    let v = found m sizes l g n ns has filed names in
+    let i : Inode = inode_of m.lines sizes v.line in
+    let kind = kind_is m.lines sizes v.line v.makes in
+    let fill = filled_by m sizes known.manifest l g (n ∷ ns) filed v in
+    let size : i.size ≡ length (get_or cs k []) = elim (named_sourced m.lines sizes (n ∷ ns) i v.is kind) [
+      | inl e ↦ let z : no_bytes ≡ source k = sym e ∙ fill in absurd (cc)
+      | inr s ↦
+          let same : s.0 ≡ k = (let z : source s.0 ≡ source k = sym s.1 ∙ fill in cc) in
+          s.2 ∙ ap (λ (j : ℕ). get_or sizes j 0) same ∙ sym (length_source cs k)
+    ] in
+    path_found law f m cs base a q known asked (n ∷ ns) x i k under v.is kind fill size

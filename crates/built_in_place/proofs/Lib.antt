@@ -4,3 +4,13 @@ pub mod Regular
 pub mod InRomfs
 pub mod Contents
 pub mod Found
+pub mod Owned
+pub mod Sections
+pub mod InCramfsPlan
+pub mod InRomfsPlan
+pub mod Planned
+pub mod Known
+pub mod NotRefused
+pub mod Reached
+pub mod Totals
+pub mod Repeats

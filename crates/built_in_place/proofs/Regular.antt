@@ -80,7 +80,7 @@ kind_by all sizes k Fifo h = absurd (cc)
 kind_by all sizes k Socket h = absurd (cc)
 kind_by all sizes k Hard h = absurd (cc)
 
-kind_is : (all : List Line) (sizes : List ℕ) (k : Line) → (is_file k.word || is_same k.word) ≡ true
+pub kind_is : (all : List Line) (sizes : List ℕ) (k : Line) → (is_file k.word || is_same k.word) ≡ true
     → (inode_of all sizes k).kind ≡ kind.Regular
 unfolding inode_of
 kind_is all sizes k h = kind_by all sizes k k.word h
@@ -132,9 +132,9 @@ pub record IsFound (m : ManifestLines) (sizes : List ℕ) (p : List ℕ) (q : Li
   pub line : Line
   pub leads : led (reverse m.lines) p ≡ Some line
   pub makes : (is_file line.word || is_same line.word) ≡ true
-  is : file_named m.lines sizes q ≡ Some (inode_of m.lines sizes line)
+  pub is : file_named m.lines sizes q ≡ Some (inode_of m.lines sizes line)
 
-found : (m : ManifestLines) (sizes : List ℕ) (l g : Line) (n : List ℕ) (ns : List (List ℕ))
+pub found : (m : ManifestLines) (sizes : List ℕ) (l g : Line) (n : List ℕ) (ns : List (List ℕ))
     → Has (λ z. z ≡ l) m.lines → filed (reverse m.lines) l.path ≡ Some g → names_of l.path ≡ Some (n ∷ ns)
     → IsFound m sizes l.path (n ∷ ns)
 unfolding file_at
@@ -156,7 +156,7 @@ found m sizes l g n ns here f e =
           ∙ (ap (file_at all sizes) same ∙ at_line);
     }
 
-by_kind : (x : Node) → kind_of x ≡ kind.Regular → is_regular x ≡ true
+pub by_kind : (x : Node) → kind_of x ≡ kind.Regular → is_regular x ≡ true
 by_kind (node a (directory es)) e = absurd (cc)
 by_kind (node a (regular ps)) e = refl
 by_kind (node a (symlink ps)) e = absurd (cc)
@@ -165,7 +165,7 @@ by_kind (node a character) e = absurd (cc)
 by_kind (node a socket) e = absurd (cc)
 by_kind (node a fifo) e = absurd (cc)
 
-same_kind : (image : List ℕ) (contents : List (List ℕ)) (x : Node) (i : Inode)
+pub same_kind : (image : List ℕ) (contents : List (List ℕ)) (x : Node) (i : Inode)
     → node_value image x ≡ file_value contents i → kind_of x ≡ i.kind
 unfolding node_value file_value
 same_kind image contents x i e = ap (λ (w : Value). w.kind) e
@@ -173,27 +173,21 @@ same_kind image contents x i e = ap (λ (w : Value). w.kind) e
 same_some : (v w : Value) → Some v ≡ Some w → v ≡ w
 same_some v w e = cc
 
--- The node at the path of a line with contents has the value of this file.
+-- the node at a path has the value of the file there
 pub value_at : (image : List ℕ) (t : Node) (contents : List (List ℕ)) (m : ManifestLines) (sizes : List ℕ)
-    → IsMeant image t contents m sizes → (l g : Line) (n : List ℕ) (ns : List (List ℕ)) (x : Node)
-    → Has (λ z. z ≡ l) m.lines → filed (reverse m.lines) l.path ≡ Some g → names_of l.path ≡ Some (n ∷ ns)
-    → node_under (n ∷ ns) t ≡ Some x
-    → (i : IsFound m sizes l.path (n ∷ ns)) × (node_value image x ≡ file_value contents (inode_of m.lines sizes i.line))
-value_at image t contents m sizes meant l g n ns x here f e under =
-    let i = found m sizes l g n ns here f e in
-    let k : Inode = inode_of m.lines sizes i.line in (
-      i,
-      same_some (node_value image x) (file_value contents k)
-          (sym (ap (option_map (node_value image)) under) ∙ (meant.values (n ∷ ns)
-          ∙ ap (option_map (file_value contents)) i.is)),
-    )
+    → IsMeant image t contents m sizes → (q : List (List ℕ)) (x : Node) (i : Inode) → node_under q t ≡ Some x
+    → file_named m.lines sizes q ≡ Some i → node_value image x ≡ file_value contents i
+value_at image t contents m sizes meant q x i under is =
+    same_some (node_value image x) (file_value contents i)
+    (sym (ap (option_map (node_value image)) under) ∙ (meant.values q ∙ ap (option_map (file_value contents)) is))
 
--- It is a regular file.
+-- The node at the path of a line with contents is a regular file.
 pub regular_at : (image : List ℕ) (t : Node) (contents : List (List ℕ)) (m : ManifestLines) (sizes : List ℕ)
     → IsMeant image t contents m sizes → (l g : Line) (n : List ℕ) (ns : List (List ℕ)) (x : Node)
     → Has (λ z. z ≡ l) m.lines → filed (reverse m.lines) l.path ≡ Some g → names_of l.path ≡ Some (n ∷ ns)
     → node_under (n ∷ ns) t ≡ Some x → is_regular x ≡ true
 regular_at image t contents m sizes meant l g n ns x here f e under =
-    let v = value_at image t contents m sizes meant l g n ns x here f e under in
-    by_kind x (same_kind image contents x (inode_of m.lines sizes v.0.line) v.1
-    ∙ kind_is m.lines sizes v.0.line v.0.makes)
+    let v = found m sizes l g n ns here f e in
+    let i : Inode = inode_of m.lines sizes v.line in
+    by_kind x (same_kind image contents x i (value_at image t contents m sizes meant (n ∷ ns) x i under v.is)
+    ∙ kind_is m.lines sizes v.line v.makes)

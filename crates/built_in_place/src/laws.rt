@@ -1,20 +1,27 @@
 //! What Linux maps of the files of a built image.
-ghost use Rattle.std.specs.Prelude.{◌≡◌, ◌<◌, ◌^◌, ℕ, List, Ok, Option, false, length};
+ghost use Rattle.std.specs.Prelude.{◌≡◌, ◌<◌, ◌^◌, ℕ, IfSome, List, Ok, Option, Some};
+ghost use Rattle.std.specs.Prelude.{length, map};
 ghost use Rattle.built_in_place.specs.Files.{AreInPlace, AreMappedWhole, HoldsImage};
-ghost use Rattle.built_in_place.specs.Programs.{AreFound, IsAccepted};
+ghost use Rattle.built_in_place.specs.Programs.{AreFound, HasNoRefused, IsAccepted, IsAskedAt};
+ghost use Rattle.built_in_place.specs.Programs.{IsNotRefused};
 ghost use Rattle.built_in_place.specs.Romfs.{AreMappedInRomfs, FillsPages};
 ghost use Rattle.cramfs_format.specs.declared.order.Order.{Order};
 ghost use Rattle.program_pages.specs.Physmem.{Flash};
 ghost use Rattle.formats.specs.Format.{Format, cramfs};
 ghost use Rattle.image_build.specs.Accepted.{usual};
 ghost use Rattle.image_build.specs.Builds.{Builds};
-ghost use Rattle.image_build.specs.Streamed.{IsPlanOfText, form_in, image_with, stored_in};
+ghost use Rattle.image_build.specs.Streamed.{HasNoCopies, IsPlanOfText, form_in, image_with};
+ghost use Rattle.image_build.specs.Streamed.{stored_in};
+ghost use Rattle.image_check.specs.Any.{any_view};
 ghost use Rattle.image_check.specs.Checked.{HasTree};
 ghost use Rattle.image_check.specs.declared.any.AnyImage.{AnyImage};
 ghost use Rattle.image_stream.specs.Outcomes.{IsWritten};
 ghost use Rattle.manifest.specs.Grammar.{manifest_of};
 ghost use Rattle.manifest.specs.Lines.{ManifestLines};
+ghost use Rattle.manifest_tree.specs.Shape.{node_under};
 ghost use Rattle.plan_types.specs.Plans.{Planned};
+ghost use Rattle.program_report.specs.Found.{found_in};
+ghost use Rattle.program_report.specs.Lines.{tally_of};
 ghost use Rattle.program_report.specs.declared.question.Question.{Question};
 ghost use Rattle.rom_tree.specs.Tree.{Node};
 ghost use Rattle.romfs_format.specs.Tree.{RomfsTree};
@@ -79,15 +86,51 @@ pub fn streamed_is_in_place()
 }
 
 /// Shows that with an MMU, what `xip` finds of each file of a built image is what the contents of
-/// its source say, at the place that the image gives them. Only the last page of a program may be
-/// in place as well, if no other data are in it.
+/// its source say, at the place that the plan gives them. Only the last page of a program may be in
+/// place as well, if no other data are in it.
 pub fn built_is_found()
     ensures { (f : Format) (text : List ℕ) (contents : List (List ℕ)) (bytes : List ℕ)
-        (m : ManifestLines) (a : AnyImage) (q : Question) → Builds f text contents (Ok bytes)
-        → manifest_of text ≡ Ok m → IsAccepted bytes a → q.no_mmu ≡ false
-        → AreFound f m contents a q }
+        (m : ManifestLines) (base : ℕ) (a : AnyImage) (q : Question)
+        → Builds f text contents (Ok bytes) → manifest_of text ≡ Ok m → IsAccepted bytes a
+        → IsAskedAt base q → AreFound f m contents base a q }
 {
-    image_build::laws::built_is_accepted();
-    image_build::laws::built_is_placed();
+    image_check::laws::one_tree();
+    manifest_layout::laws::fitting_is_planned();
     program_report::laws::planned_is_found();
+}
+
+/// Shows that if by the plan no program is out of place, `xip` with an MMU finds none that is, at
+/// any path of the built image: it has no line `not`, and counts none.
+pub fn planned_is_not_refused()
+    ensures found { (f : Format) (text : List ℕ) (contents : List (List ℕ)) (bytes : List ℕ)
+        (m : ManifestLines) (base : ℕ) (a : AnyImage) (q : Question) (path : List (List ℕ))
+        (x : Node) → Builds f text contents (Ok bytes) → manifest_of text ≡ Ok m
+        → IsAccepted bytes a → IsAskedAt base q → HasNoRefused f m contents base
+        → node_under path (any_view a).tree ≡ Some x
+        → IfSome (found_in a q x) (λ v. IsNotRefused v.verdict) }
+    ensures total { (f : Format) (text : List ℕ) (contents : List (List ℕ)) (bytes : List ℕ)
+        (m : ManifestLines) (base : ℕ) (a : AnyImage) (q : Question)
+        → Builds f text contents (Ok bytes) → manifest_of text ≡ Ok m → IsAccepted bytes a
+        → IsAskedAt base q → HasNoRefused f m contents base → (tally_of a q).not ≡ 0 }
+{
+    image_check::laws::one_tree();
+    manifest_layout::laws::fitting_is_planned();
+    program_report::laws::planned_is_found();
+}
+
+/// Shows the same two for an image that was streamed, whatever the sources are, if no source has a
+/// copy: it has some contents of the planned sizes.
+pub fn streamed_is_found()
+    ensures { (text : List ℕ) (p : Planned) (known : Option (List (List ℕ)))
+        (old new : Option (List ℕ)) (base : ℕ) (a : AnyImage) (q : Question)
+        → (is : IsPlanOfText text p) → HasNoCopies p.format is.lines
+        → (w : IsWritten known (form_in p.format p) (stored_in p.format) old new)
+        → IsAccepted (image_with p w.rest) a → IsAskedAt base q
+        → (contents : List (List ℕ)) × (map length contents ≡ p.sizes)
+        × AreFound p.format is.lines contents base a q
+        × (HasNoRefused p.format is.lines contents base → (tally_of a q).not ≡ 0) }
+{
+    image_build::laws::streamed_is_accepted();
+    built_is_found();
+    planned_is_not_refused();
 }

@@ -11,7 +11,11 @@
 //!   cramfs image.
 //! - `laws::streamed_is_in_place`: the same two of a streamed cramfs image.
 //! - `laws::built_is_found`: with an MMU, what `xip` finds of a file of a built image is what the
-//!   contents of its source say at their place, except whether its last page is in place.
+//!   contents of its source say at the place that the plan gives them, except whether its last page
+//!   is in place.
+//! - `laws::planned_is_not_refused`: if by the plan no program is out of place, `xip` with an MMU
+//!   finds none that is, at any path of the built image, and counts none.
+//! - `laws::streamed_is_found`: the same two of a streamed image, if no source has a copy.
 //! - `laws::romfs_is_mapped`: without an MMU, Linux maps all pages of the files of any romfs image.
 #![tactic(auto)]
 
