@@ -324,6 +324,8 @@ def faulty(romtool, words, held, number, place, what):
     pytest.param("romfs", lambda it: it[:20], 2, 0, "it has 20 bytes", id="short"),
     pytest.param("romfs", lambda it: it[:100], 4, 8, "144 is stated, the file has 100 bytes", id="romfs size"),
     pytest.param("cramfs", lambda it: it[:100], 4, 4, "4096 is stated, the file has 100 bytes", id="cramfs size"),
+    pytest.param("romfs", lambda it: replaced(it, 8, bytes(3) + b"\x08"), 4, 8, "8 is stated", id="romfs small"),
+    pytest.param("cramfs", lambda it: replaced(it, 4, b"\x08" + bytes(3)), 4, 4, "8 is stated", id="cramfs small"),
     pytest.param("romfs", lambda it: it[:140] + b"\x01\0\0\0", 5, 12, "they sum to 01000000 (hexadecimal)", id="sum"),
     pytest.param("cramfs", lambda it: it[:9] + b"\x18" + it[10:], 6, 8, "the flags are 1803", id="flags"),
     pytest.param("cramfs-be", lambda it: it[:10] + b"\x18" + it[11:], 6, 8, "the flags are 1803", id="flags of the other order"),

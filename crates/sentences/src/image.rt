@@ -182,6 +182,16 @@ fn crcs(alloc: Global, bytes: &[u8]) -> Result<String, AllocError> {
     format!(in alloc; "{stored:08x} is stored, the bytes have {made:08x}")
 }
 
+/// The stated size, and the number of bytes if that is less. Otherwise more bytes may be in the
+/// file: what is stated is too small for an image, and only the front was read.
+fn sizes(alloc: Global, bytes: &[u8]) -> Result<String, AllocError> {
+    let (stated, len) = (stated(bytes).unwrap_or(0), bytes.len());
+    if stated as usize <= len {
+        return format!(in alloc; "{stated} is stated");
+    }
+    format!(in alloc; "{stated} is stated, the file has {len} bytes")
+}
+
 /// Returns the values that were read at a fault, by its number and offset, in words. The text is
 /// empty if the sentence of the fault says everything.
 ///
@@ -194,11 +204,7 @@ pub fn seen(alloc: Global, bytes: &[u8], number: u32, at: u32) -> Result<String,
         TOO_MANY => Ok(String::new(alloc)),
         SHORT => format!(in alloc; "it has {} bytes", bytes.len()),
         MAGIC => first_bytes(alloc, bytes),
-        SIZE => format!(in alloc;
-            "{} is stated, the file has {} bytes",
-            stated(bytes).unwrap_or(0),
-            bytes.len()
-        ),
+        SIZE => sizes(alloc, bytes),
         SUM => format!(in alloc; "they sum to {:08x} (hexadecimal)", sum_of(bytes)),
         FLAGS => format!(in alloc; "the flags are {:x}", word(bytes, 8).unwrap_or(0)),
         CRC => crcs(alloc, bytes),
