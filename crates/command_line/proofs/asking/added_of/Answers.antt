@@ -1,4 +1,4 @@
-use Rattle.std.proofs.Common.{◌≡◌, List, ℕ, [], subst, sym, ap, ◌∙◌, map}
+use Rattle.std.proofs.Common.{List, ℕ, [], subst, sym, ap, ◌∙◌, map}
 use Rattle.std.specs.Borrow.{Bor}
 use Rattle.command_line.specs.Numbers.{AreDevices, DeviceWords, no_device, next_device}
 use Rattle.command_line.proofs.Loops.{map_more, whole}
