@@ -21,10 +21,10 @@ use build_commands::laying::{LayError, lay_list, lay_table};
 use build_commands::overlay::{OverlayError, is_directory, laid_over};
 use build_commands::rights::own_all;
 use build_commands::{Rule, devices};
-use command_line::ScanAll;
+use command_line::{Owner, ScanAll};
 use manifest::Entry;
 use rom_commands::Status;
-use rom_fields::{Failed, Plain};
+use rom_fields::{Failed, OutOfMemory, Plain};
 use sentences::reasons::{
     KINDS_DIFFER, LONG_NAME, MANIFEST_NOT_TAKEN, OWN_FILE, OWN_STREAM, PART_REPLACED,
 };
@@ -59,6 +59,43 @@ fn check_faked(rt: &HostRuntime, directories: &[&str]) -> Result<(), Stop> {
         return Err(refused(rt.alloc(), first, Reason::Faked));
     }
     Ok(())
+}
+
+/// Sets the owner of all files, if one is given.
+fn own(found: &mut Vec<NamedFile>, owner: Option<Owner>)
+    ensures { AreInOrder found.old.items → AreInOrder found.new.items }
+{
+    if let Some(owner) = owner {
+        own_all(found, owner.uid, owner.gid);
+    }
+}
+
+/// Sets the alignments of all files.
+fn align(alloc: Global, found: &mut Vec<NamedFile>, aligns: &[u32]) -> Result<(), OutOfMemory>
+    ensures { AreInOrder found.old.items → AreInOrder found.new.items }
+{
+    align_all(alloc, found, aligns)
+}
+
+/// Sets the owner and the alignment of each file that was found.
+fn prepared(
+    rt: &HostRuntime,
+    scan: &ScanAll<'_>,
+    patterns: &Patterns,
+    mut found: Vec<NamedFile>,
+    states: &mut States,
+) -> Result<Vec<NamedFile>, Stop>
+    requires { AreInOrder found.items }
+    ensures { IfOk result (λ v. AreInOrder v.items) }
+{
+    own(&mut found, scan.owner);
+    let rules = AlignRules {
+        patterns,
+        align: scan.align,
+    };
+    let aligns = alignments(rt, rules, &found, states)?;
+    align(rt.alloc(), &mut found, &aligns)?;
+    Ok(found)
 }
 
 /// Reports why a list or a table in the file of this name, which has this text, is refused.
@@ -147,14 +184,8 @@ fn all_found(
     }
     let directories = directories_of(rt, &found.files)?;
     let mut states = States::of(alloc, &found.files, &found.states, notes_programs)?;
-    let mut found = laid(alloc, found.files)?;
-    if let Some(owner) = scan.owner {
-        own_all(&mut found, owner.uid, owner.gid);
-    }
-    let (patterns, align) = (&patterns, scan.align);
-    let rules = AlignRules { patterns, align };
-    let aligns = alignments(rt, rules, &found, &mut states)?;
-    align_all(alloc, &mut found, &aligns)?;
+    let found = laid(alloc, found.files)?;
+    let found = prepared(rt, scan, &patterns, found, &mut states)?;
     let mut watched = Vec::new(alloc);
     let mut files = with_devices(reporter, scan, found, &mut watched)?;
     if scan.dedupe {
