@@ -1,5 +1,6 @@
 //! What each subcommand asks for, by the values that clap returns for its arguments.
-ghost use Rattle.std.specs.Prelude.{◌≡◌, ◌≢◌, IfNone, IfOk, IfSome, Some, codes, map, option_map};
+ghost use Rattle.std.specs.Prelude.{◌≡◌, ◌≢◌, ℕ, List, IfNone, IfOk, IfSome, Some, codes, map};
+ghost use Rattle.std.specs.Prelude.{option_map};
 ghost use Rattle.clap.specs.Words.{all_of, first_of, found_of, rows_of};
 ghost use Rattle.command_line.specs.Numbers.{AreAddresses, AreAligns, AreDevices, IsAddress};
 ghost use Rattle.command_line.specs.Numbers.{IsBaseOf, NotesDevice};
@@ -8,8 +9,10 @@ ghost use Rattle.command_line.specs.Numbers.{IsAlignOf, IsOptional, IsSize, Note
 ghost use Rattle.command_line.specs.Words.{ArePlaces, AreTexts, HasNoValueForAll, IsAskedBy};
 ghost use Rattle.command_line.specs.Words.{IsDirectory, IsFill, IsFlag, IsForm, IsOffsetOf};
 ghost use Rattle.command_line.specs.Words.{IsOwnerOf, IsPackedBuild, IsPackedScan, IsPadding};
-ghost use Rattle.command_line.specs.Words.{IsPlainScan, IsSharedIn};
+ghost use Rattle.command_line.specs.Words.{HasValue, IsAskedOfImage, IsPlainScan, IsQuestion};
+ghost use Rattle.command_line.specs.Words.{IsSharedIn, question_word};
 ghost use Rattle.command_line.specs.Words.{texts_or_none, word_of};
+ghost use Rattle.command_line.specs.declared.request.Question.TheVariants as question;
 ghost use Rattle.command_line.specs.declared.request.Request.TheVariants as request;
 
 use crate::error::{WordsError, Wrong};
@@ -17,8 +20,8 @@ use crate::numbers::{
     address_named, align_named, align_rule_named, device_named, owner_named, size_named,
 };
 use crate::request::{
-    AlignRule, Build, Cat, DeviceWords, Diff, Digest, Extract, Info, Map, MapForm, Numbers, Owner,
-    Pack, Padding, Request, Scan, ScanAll, Verify, Which, Xip,
+    AlignRule, Build, Cat, DeviceWords, Diff, Digest, Extract, InPlace, Map, MapForm, Numbers,
+    Owner, Pack, Padding, Question, Request, Scan, ScanAll, Verify, Which,
 };
 use arrayvec::ArrayVec;
 use clap::ArgMatches;
@@ -139,22 +142,24 @@ fn check_of<'a>(alloc: Global, values: &ArgMatches<'a>) -> Result<Request<'a>, W
         return Ok(Request::CheckEach(images));
     }
     match names {
-        [image] => Ok(Request::Check(*image)),
+        [image] => Ok(Request::Image(*image, Question::Report)),
         _ => Err(Wrong::Images.into()),
     }
 }
 
-/// Returns the facts that are asked for.
-fn info_of<'a>(values: &ArgMatches<'a>) -> Result<Info<'a>, WordsError<'a>>
-    ensures { IfOk result (λ i. IsAskedBy (rows_of (found_of values.now)) (request.Info i)) }
+/// Returns what is asked of the facts of an image.
+fn facts_of<'a>(values: &ArgMatches<'a>) -> Result<Question, WordsError<'a>>
+    ensures asked { IfOk result (IsQuestion (rows_of (found_of values.now))) }
+    ensures word { IfOk result (λ q. question_word q ≡ codes "info") }
 {
-    let image = wanted(values, "image")?;
-    let size = size_of(values, "size")?;
-    Ok(Info { image, size })
+    match size_of(values, "size")? {
+        None => Ok(Question::Facts),
+        Some(limit) => Ok(Question::Fit(limit)),
+    }
 }
 
 /// Returns the form of a map of all files, whose names have no prefix.
-fn form_of_all<'a>(values: &ArgMatches<'a>) -> Result<MapForm<'a>, WordsError<'a>>
+fn form_of_all<'a>(values: &ArgMatches<'a>) -> Result<Option<MapForm<'a>>, WordsError<'a>>
     ensures { IfOk result (IsForm (rows_of (found_of values.now))) }
 {
     if is_given(values, "c") || is_given(values, "ld") {
@@ -164,15 +169,15 @@ fn form_of_all<'a>(values: &ArgMatches<'a>) -> Result<MapForm<'a>, WordsError<'a
         return Err(Wrong::Forms.into());
     }
     match (is_given(values, "all"), is_given(values, "svg")) {
-        (false, false) => Ok(MapForm::Files),
-        (true, false) => Ok(MapForm::All),
-        (false, true) => Ok(MapForm::Svg),
+        (false, false) => Ok(None),
+        (true, false) => Ok(Some(MapForm::All)),
+        (false, true) => Ok(Some(MapForm::Svg)),
         (true, true) => Err(Wrong::Forms.into()),
     }
 }
 
-/// Returns the form of a map.
-fn form_of<'a>(values: &ArgMatches<'a>) -> Result<MapForm<'a>, WordsError<'a>>
+/// Returns the form of a map, or `None` for lines of runs.
+fn form_of<'a>(values: &ArgMatches<'a>) -> Result<Option<MapForm<'a>>, WordsError<'a>>
     ensures { IfOk result (IsForm (rows_of (found_of values.now))) }
 {
     let c = is_given(values, "c");
@@ -182,26 +187,29 @@ fn form_of<'a>(values: &ArgMatches<'a>) -> Result<MapForm<'a>, WordsError<'a>>
         return form_of_all(values);
     }
     match (c, ld) {
-        (true, false) => Ok(MapForm::C(prefix)),
-        (false, true) => Ok(MapForm::Script(prefix)),
+        (true, false) => Ok(Some(MapForm::C(prefix))),
+        (false, true) => Ok(Some(MapForm::Script(prefix))),
         _ => Err(Wrong::Forms.into()),
     }
 }
 
 /// Returns the map that is asked for.
-fn map_of<'a>(alloc: Global, values: &ArgMatches<'a>) -> Result<Map<'a>, WordsError<'a>>
-    ensures { IfOk result (λ m. IsAskedBy (rows_of (found_of values.now)) (request.Map m)) }
+fn map_of<'a>(alloc: Global, values: &ArgMatches<'a>) -> Result<Request<'a>, WordsError<'a>>
+    ensures asked { IfOk result (IsAskedBy (rows_of (found_of values.now))) }
+    ensures word { IfOk result (λ r. word_of r ≡ codes "map") }
 {
     let image = wanted(values, "image")?;
     let base = base_of(values)?;
-    let form = form_of(values)?;
+    let Some(form) = form_of(values)? else {
+        return Ok(Request::Image(image, Question::Runs(base)));
+    };
     let only = texts_of(alloc, values, "only")?;
-    Ok(Map {
+    Ok(Request::Map(Map {
         image,
         base,
         form,
         only,
-    })
+    }))
 }
 
 /// Returns the addresses that are given.
@@ -292,18 +300,35 @@ fn cat_of<'a>(values: &ArgMatches<'a>) -> Result<Cat<'a>, WordsError<'a>>
     Ok(Cat { image, path })
 }
 
-/// Returns the image of which is asked which programs are executed in place, and how.
-fn xip_of<'a>(values: &ArgMatches<'a>) -> Result<Xip<'a>, WordsError<'a>>
-    ensures { IfOk result (λ x. IsAskedBy (rows_of (found_of values.now)) (request.Xip x)) }
+/// Returns how programs are executed in place.
+fn in_place_of<'a>(values: &ArgMatches<'a>) -> Result<InPlace, WordsError<'a>>
+    ensures { IfOk result (λ x. IsQuestion (rows_of (found_of values.now)) (question.InPlace x)) }
 {
-    let image = wanted(values, "image")?;
     let base = base_of(values)?;
-    Ok(Xip {
-        image,
+    Ok(InPlace {
         base,
         no_mmu: is_given(values, "no-mmu"),
         advice: is_given(values, "advice"),
     })
+}
+
+/// Returns what a subcommand of this name asks of one image, if it does.
+fn question_of<'a>(
+    name: &str,
+    values: &ArgMatches<'a>,
+) -> Result<Option<Question>, WordsError<'a>>
+    ensures asked { IfOk result (λ o. IfSome o (λ q. (image : List ℕ)
+        → HasValue (rows_of (found_of values.now)) (codes "image") image
+        → IsAskedOfImage (rows_of (found_of values.now)) image q)) }
+    ensures word { IfOk result (λ o. IfSome o (λ q. name.now ≡ question_word q)) }
+{
+    Ok(Some(match name {
+        "list" => Question::List,
+        "info" => facts_of(values)?,
+        "linux" => Question::Misreads,
+        "xip" => Question::InPlace(in_place_of(values)?),
+        _ => return Ok(None),
+    }))
 }
 
 /// Returns the format that a word names.
@@ -758,19 +783,18 @@ fn reading<'a>(
     ensures values { IfOk result (λ o. IfSome o (IsAskedBy (rows_of (found_of values.now)))) }
     ensures word { IfOk result (λ o. IfSome o (λ r. name.now ≡ word_of r)) }
 {
+    if let Some(question) = question_of(name, values)? {
+        return Ok(Some(Request::Image(wanted(values, "image")?, question)));
+    }
     Ok(Some(match name {
         "check" => check_of(alloc, values)?,
-        "list" => Request::List(wanted(values, "image")?),
-        "info" => Request::Info(info_of(values)?),
-        "map" => Request::Map(map_of(alloc, values)?),
+        "map" => map_of(alloc, values)?,
         "which" => Request::Which(which_of(alloc, values)?),
         "diff" => Request::Diff(diff_of(values)?),
         "digest" => Request::Digest(digest_of(values)?),
         "verify" => Request::Verify(verify_of(values)?),
         "numbers" => Request::Numbers(numbers_of(values)?),
         "cat" => Request::Cat(cat_of(values)?),
-        "linux" => Request::Linux(wanted(values, "image")?),
-        "xip" => Request::Xip(xip_of(values)?),
         _ => return Ok(None),
     }))
 }

@@ -30,7 +30,7 @@ pub use error::{WordsError, Wrong};
 pub use help::shown;
 pub use numbers::size_named;
 pub use request::{
-    AlignRule, Build, Cat, DeviceWords, Diff, Digest, Extract, Info, Limited, Map, MapForm,
-    Numbers, Owner, Pack, Padding, Request, Scan, ScanAll, Verify, Which, Xip,
+    AlignRule, Build, Cat, DeviceWords, Diff, Digest, Extract, InPlace, Limited, Map, MapForm,
+    Numbers, Owner, Pack, Padding, Question, Request, Scan, ScanAll, Verify, Which,
 };
 pub use words::{is_explain, read};

@@ -16,15 +16,11 @@ pub enum Request<'a> {
     Example,
     /// To print the program's version.
     Version,
-    /// To check the image in this file.
-    Check(&'a str),
+    /// To print what is asked of the image in this file.
+    Image(&'a str, Question),
     /// To check the image in each of these files, at least one.
     CheckEach(Vec<&'a str>),
-    /// To list the image in this file.
-    List(&'a str),
-    /// To print the facts of an image.
-    Info(Info<'a>),
-    /// To print where the bytes of an image are.
+    /// To print where the bytes of an image are, in another form than lines of runs.
     Map(Map<'a>),
     /// To print what is at addresses.
     Which(Which<'a>),
@@ -38,10 +34,6 @@ pub enum Request<'a> {
     Numbers(Numbers<'a>),
     /// To print the bytes of a file in an image.
     Cat(Cat<'a>),
-    /// To print what Linux misreads in the image in this file.
-    Linux(&'a str),
-    /// To print which programs of an image Linux executes in place.
-    Xip(Xip<'a>),
     /// To serve the image in this file.
     Serve(&'a str),
     /// To serve the images in these files, one to eight.
@@ -58,12 +50,23 @@ pub enum Request<'a> {
     Extract(Extract<'a>),
 }
 
-/// The facts of an image, and whether it fits.
+/// What is asked of one image.
 #[derive(Clone, Copy)]
-pub struct Info<'a> {
-    pub image: &'a str,
-    /// The number of bytes that there are for the image, if it is given.
-    pub size: Option<u64>,
+pub enum Question {
+    /// Whether it is valid.
+    Report,
+    /// Its list.
+    List,
+    /// Its facts.
+    Facts,
+    /// Its facts, and whether it fits into this number of bytes.
+    Fit(u64),
+    /// The runs of each regular file, if the image's first byte has this address.
+    Runs(u64),
+    /// What Linux misreads in it.
+    Misreads,
+    /// Which of its programs Linux executes in place.
+    InPlace(InPlace),
 }
 
 /// A map of an image whose first byte has this address.
@@ -79,8 +82,6 @@ pub struct Map<'a> {
 /// The form of a map.
 #[derive(Clone, Copy)]
 pub enum MapForm<'a> {
-    /// A line for each run of each regular file.
-    Files,
     /// A line for each extent.
     All,
     /// A header for C. Its names begin with this prefix, if one is given.
@@ -139,10 +140,10 @@ pub struct Cat<'a> {
     pub path: &'a str,
 }
 
-/// Which programs Linux executes in place, in an image whose first byte has this address.
+/// How programs are executed in place.
 #[derive(Clone, Copy)]
-pub struct Xip<'a> {
-    pub image: &'a str,
+pub struct InPlace {
+    /// The address of the image's first byte.
     pub base: u64,
     /// Whether the kernel has no MMU.
     pub no_mmu: bool,

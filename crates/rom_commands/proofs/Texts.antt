@@ -1,5 +1,6 @@
 -- What is printed of an image, from what its check found.
-use Rattle.std.proofs.Common.{◌≡◌, ℕ, Bool, List, Err, length, refl, sym, ap, ◌∙◌, ◌++◌, subst}
+use Rattle.std.proofs.Common.{◌≡◌, ℕ, Bool, List, Result, Ok, Err, IfOk, IfErr, length, refl, sym, ap, ◌∙◌, ◌++◌, subst}
+use Rattle.rom_faults.specs.declared.error.CheckError.{CheckError}
 use Rattle.rom_faults.specs.declared.error.CheckError.TheVariants.{Fault}
 use Rattle.rom_tree.specs.declared.types.Limits.{Limits}
 use Rattle.image_check.specs.declared.any.AnyImage.{AnyImage}
@@ -15,7 +16,7 @@ use Rattle.image_info.specs.declared.info.InfoError.{InfoError}
 use Rattle.image_info.specs.declared.info.InfoError.TheVariants.{OutOfMemory, WriteFault}
 use Rattle.rom_commands.specs.declared.asked.Asked.{Asked}
 use Rattle.rom_commands.specs.Asked.{sound_text, warns, Fits}
-use Rattle.rom_commands.specs.Answers.{Holds, IsSoundText, HasFault, usual_limits}
+use Rattle.rom_commands.specs.Answers.{Holds, IsAnswer, IsSoundText, HasFault, usual_limits}
 
 -- limits of these numbers are the usual ones
 pub usual : (l : Limits) → l.references ≡ 1048576 → l.depth ≡ 64 → l ≡ usual_limits
@@ -41,7 +42,7 @@ sound bytes asked l v e h f k warned w =
     record { image = v; shows = subst P e h; format = f; clean = subst Q e k; same = refl; warning = w }
 
 -- an image shows the bytes that were checked
-shown_bytes : (bytes : List ℕ) (l : Limits) (m : Image) (r : Report) → Shows bytes l m r → m.bytes ≡ bytes
+pub shown_bytes : (bytes : List ℕ) (l : Limits) (m : Image) (r : Report) → Shows bytes l m r → m.bytes ≡ bytes
 shown_bytes bytes l m r (shows_romfs h) = h.bytes
 shown_bytes bytes l m r (shows_cramfs h) = h.bytes
 
@@ -70,3 +71,17 @@ pub failed_front : (old new : Output) (s t : List ℕ) (e : InfoError) → Write
     → WritesAll {T = Bool} old new (s ++ t) (Err e)
 failed_front old new s t OutOfMemory h = h
 failed_front old new s t WriteFault h = (front_first old.contents new.contents s t h.0, h.1)
+
+-- what a check under these limits answers, if they are the usual ones
+pub answered : (bytes : List ℕ) (l : Limits) (r : Result AnyImage CheckError) → l ≡ usual_limits
+    → IfOk r (λ v. Shows bytes l (any_view v) (report_of v)) → IfOk r (HasFormat bytes)
+    → IfOk r (λ v. IsFaultless bytes l) → IfErr r (IsRefused bytes l) → IfErr r (IsLeastFaultUnder bytes l)
+    → IsAnswer bytes r
+answered bytes l (Ok v) e h f k r t =
+    let P : Limits → Type 0 = λ u. Shows bytes u (any_view v) (report_of v) in
+    let Q : Limits → Type 0 = λ u. IsFaultless bytes u in
+    (subst P e h, f, subst Q e k)
+answered bytes l (Err x) e h f k r t =
+    let P : Limits → Type 0 = λ u. IsRefused bytes u x in
+    let Q : Limits → Type 0 = λ u. IsLeastFaultUnder bytes u x in
+    (subst P e r, subst Q e t)

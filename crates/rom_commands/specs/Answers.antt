@@ -1,9 +1,11 @@
 -- What is printed of an image, and how the printing ends. (This project's own.)
 use Rattle.std.specs.Prelude.{◌≡◌, ◌<◌, ℕ, ◌⊎◌, Bool, true, false, List, None}
+use Rattle.std.specs.Prelude.{Result, Ok, Err}
 use Rattle.std.specs.Io.KnownBytes.{Appends}
 use Rattle.rom_fields.specs.Failures.{Rose, one_more}
 use Rattle.rom_fields.specs.Written.{AppendsPrefix, Output, Puts, sink}
 use Rattle.rom_tree.specs.Image.{Image}
+use Rattle.rom_faults.specs.declared.error.CheckError.{CheckError}
 use Rattle.rom_faults.specs.declared.error.CheckError.TheVariants.{Fault}
 use Rattle.rom_tree.specs.declared.types.Limits.{Limits}
 use Rattle.rom_tree.specs.declared.types.Report.{Report}
@@ -71,6 +73,13 @@ abbrev pub IsWrittenIf : Bool → List ℕ → Output → Output → Type 0
 IsWrittenIf true line old new =
     Appends old.contents new.contents line × (new.failures ≡ old.failures)
 IsWrittenIf false line old new = new ≡ old
+
+-- what a check of these bytes under the usual limits answers
+abbrev pub IsAnswer : List ℕ → Result AnyImage CheckError → Type 0
+IsAnswer bytes (Ok v) =
+    Shows bytes usual_limits (any_view v) (report_of v) × HasFormat bytes v
+    × IsFaultless bytes usual_limits
+IsAnswer bytes (Err e) = IsRefused bytes usual_limits e × IsLeastFaultUnder bytes usual_limits e
 
 -- What was written of the image with these bytes, in each ending. The fault of an ending is the
 -- least fault of these bytes.

@@ -6,8 +6,9 @@
 //!
 //! Proved:
 //!
-//! - `show`, `has_addresses`, `print`, `image_size`: the output of `check`, `list`, `map`, `linux`,
-//!   `xip` and `info`, or the line of the fault, for each ending. After that of `info`: unused
+//! - `show`, `has_addresses`, `print`, `print_answer`, `check_usual`, `image_size`: the output of
+//!   `check`, `list`, `map`, `linux`, `xip` and `info`, or the line of the fault, for each ending,
+//!   after one check (`print_answer` after one that was made before). After that of `info`: unused
 //!   bytes, whether the image fits into a number of bytes, how many are left, and a status of 1
 //!   exactly if it does not fit.
 //! - `print`, `print_file`, `takes_fault`, `refuse`: if an image has a fault, `check` and `list`
@@ -78,10 +79,10 @@ pub use flash::{print_extents, print_picture};
 pub use maps::{print_header, print_script};
 pub use numbers::print_numbers;
 pub use places::print_places;
-pub use printing::print;
+pub use printing::{print, print_answer};
 pub use room::image_size;
 pub use serving::{Serving, refuse, serve_checked, serve_image, serve_on, serve_under};
 pub use several::{refuse_in, serve_images, serve_several_on};
-pub use shown::{has_addresses, show, takes_fault};
+pub use shown::{check_usual, has_addresses, show, takes_fault};
 pub use status::Status;
 pub use verdicts::{Verified, print_verdict, verify_dump};

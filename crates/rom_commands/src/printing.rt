@@ -1,13 +1,19 @@
 //! Prints to standard output and to standard error.
-ghost use Rattle.std.specs.Prelude.{◌≡◌, length};
+ghost use Rattle.std.specs.Prelude.{◌≡◌, ℕ, List, IfOk, length};
+ghost use Rattle.rom_tree.specs.Tree.{IsShallow};
+ghost use Rattle.image_check.specs.Any.{any_view};
+ghost use Rattle.image_info.specs.Gaps.{IsChecked};
 ghost use Rattle.std.specs.Io.KnownBytes.{Keeps};
 ghost use Rattle.rom_commands.specs.Asked.{Fits, takes_fault};
-ghost use Rattle.rom_commands.specs.Answers.{Closes, Ends, Flushes, IsHandedOn, Prints, has_text};
+ghost use Rattle.rom_commands.specs.Answers.{Closes, Ends, Flushes, IsAnswer, IsHandedOn, Prints};
+ghost use Rattle.rom_commands.specs.Answers.{has_text};
 ghost use Rattle.rom_commands.specs.Endings.{complaint_of};
 
 use crate::asked::Asked;
 use crate::ending::{Ending, has_text, report};
-use crate::shown::{show, takes_fault};
+use crate::shown::{check_usual, show_answer, takes_fault};
+use image_check::AnyImage;
+use rom_faults::CheckError;
 use rom_fields::{ByteWrite, Plain};
 use std::alloc::Global;
 use std::io::Write;
@@ -55,6 +61,31 @@ pub(crate) fn closed<X: Write, E: ByteWrite>(
     ending
 }
 
+/// Prints to `out` what is asked of an image of which a check under the usual limits answered this,
+/// as `print` does. The image need not be checked again.
+pub fn print_answer<X: Write, E: ByteWrite>(
+    alloc: Global,
+    answer: &Result<AnyImage<'_>, CheckError>,
+    asked: Asked,
+    out: &mut Plain<X>,
+    err: &mut E,
+) -> Ending<'static>
+    requires fresh { (⟦<Plain<X> as ByteWrite>⟧.output out.old).failures ≡ 0 }
+    requires shallow { IfOk answer.now (λ v. IsShallow (any_view v).tree) }
+    requires checked { IfOk answer.now IsChecked }
+    requires fits { IfOk answer.now (λ v. Fits asked (length (any_view v).bytes)) }
+    ensures ends { (bytes : List ℕ) → IsAnswer bytes answer.now
+        → Ends bytes asked (⟦<Plain<X> as ByteWrite>⟧.output out.old)
+        (⟦<Plain<X> as ByteWrite>⟧.output out.new) result }
+    ensures handed { (bytes : List ℕ) → IsAnswer bytes answer.now
+        → IsHandedOn result (takes_fault asked) (⟦<Plain<X> as ByteWrite>⟧.output out.new) }
+    ensures said { (bytes : List ℕ) → IsAnswer bytes answer.now
+        → Prints (E.output err.old) (E.output err.new) (complaint_of result (takes_fault asked)) }
+{
+    let ending = show_answer(alloc, answer, asked, out);
+    closed(out, err, ending, takes_fault(asked))
+}
+
 /// Prints to `out` what is asked of an image, and flushes `out`. Prints to `err` if memory was
 /// refused or a write failed. The line of a fault goes to `out` if `takes_fault` says so, and to
 /// `err` otherwise.
@@ -78,6 +109,6 @@ pub fn print<X: Write, E: ByteWrite>(
     ensures said { Prints (E.output err.old) (E.output err.new)
         (complaint_of result (takes_fault asked)) }
 {
-    let ending = show(alloc, bytes, asked, out);
-    closed(out, err, ending, takes_fault(asked))
+    let answer = check_usual(alloc, bytes);
+    print_answer(alloc, &answer, asked, out, err)
 }

@@ -1,5 +1,6 @@
 //! What is printed of an image.
-ghost use Rattle.std.specs.Prelude.{◌≡◌, ◌≤◌, ◌↔◌, ◌++◌, false, length, not, None, IfOk, IsTrue};
+ghost use Rattle.std.specs.Prelude.{◌≡◌, ◌≤◌, ◌↔◌, ◌++◌, ℕ, List, false, length, not, None, Err, IfOk};
+ghost use Rattle.std.specs.Prelude.{IsTrue};
 ghost use Rattle.rom_fields.specs.Failures.{Counts};
 ghost use Rattle.rom_fields.specs.Written.{WritesText};
 ghost use Rattle.rom_tree.specs.Tree.{IsShallow};
@@ -10,7 +11,7 @@ ghost use Rattle.image_check.specs.Any.{any_view, image_format, report_of};
 ghost use Rattle.image_info.specs.Gaps.{IsChecked};
 ghost use Rattle.rom_commands.specs.Lines.{ok_line};
 ghost use Rattle.rom_commands.specs.Asked.{sound_text, takes_fault, warns, Fits};
-ghost use Rattle.rom_commands.specs.Answers.{Ends, ShowsFault};
+ghost use Rattle.rom_commands.specs.Answers.{Ends, IsAnswer, ShowsFault};
 ghost use Rattle.rom_commands.specs.Room.{fits, room_text};
 ghost use Rattle.rom_commands.specs.declared.ending.Ending.TheVariants.{Fault as FaultEnding};
 
@@ -169,6 +170,56 @@ fn show_fault<W: ByteWrite>(fault: Fault, asked: Asked, w: &mut W) -> Ending<'st
     }
 }
 
+/// Writes the line of the fault that a check under the usual limits found, if it belongs in place of
+/// what is asked.
+fn show_error<W: ByteWrite>(error: CheckError, asked: Asked, w: &mut W) -> Ending<'static>
+    ensures { (bytes : List ℕ) → IsAnswer bytes (Err error)
+        → Ends bytes asked (W.output w.old) (W.output w.new) result }
+{
+    match error {
+        CheckError::Fault { number, at } => show_fault(Fault { number, at }, asked, w),
+        CheckError::OutOfMemory => Ending::Memory,
+    }
+}
+
+/// Checks an image under the usual limits.
+///
+/// # Errors
+///
+/// The least fault of the image, and `OutOfMemory`.
+pub fn check_usual<'a>(alloc: Global, bytes: &'a [u8]) -> Result<AnyImage<'a>, CheckError>
+    ensures answer { IsAnswer bytes.now result }
+    ensures shallow { IfOk result (λ v. IsShallow (any_view v).tree) }
+    ensures checked { IfOk result IsChecked }
+    ensures bytes { IfOk result (λ v. (any_view v).bytes ≡ bytes.now) }
+{
+    check(alloc, bytes, Limits::usual())
+}
+
+/// Writes what is asked of an image of which a check under the usual limits answered this, as `show`
+/// does.
+pub(crate) fn show_answer<W: ByteWrite>(
+    alloc: Global,
+    answer: &Result<AnyImage<'_>, CheckError>,
+    asked: Asked,
+    w: &mut W,
+) -> Ending<'static>
+    requires shallow { IfOk answer.now (λ v. IsShallow (any_view v).tree) }
+    requires checked { IfOk answer.now IsChecked }
+    requires fits { IfOk answer.now (λ v. Fits asked (length (any_view v).bytes)) }
+    ensures { (bytes : List ℕ) → IsAnswer bytes answer.now
+        → Ends bytes asked (W.output w.old) (W.output w.new) result }
+{
+    match answer {
+        Ok(image) => match write_sound(alloc, image, asked, w) {
+            Ok(warned) => { if warned { Ending::Warned } else { Ending::Done } }
+            Err(InfoError::OutOfMemory) => Ending::Memory,
+            Err(InfoError::WriteFault) => Ending::WriteFault,
+        },
+        Err(error) => show_error(*error, asked, w),
+    }
+}
+
 /// Checks an image under the usual limits, and writes what is asked of it. If the image has a
 /// fault, writes the line of the fault, or nothing, as `takes_fault` says. Returns `Done`,
 /// `Warned`, `Fault`, `Memory` or `WriteFault`.
@@ -176,13 +227,6 @@ pub fn show<W: ByteWrite>(alloc: Global, bytes: &[u8], asked: Asked, w: &mut W) 
     requires { Fits asked (length bytes.now) }
     ensures { Ends bytes.now asked (W.output w.old) (W.output w.new) result }
 {
-    match check(alloc, bytes, Limits::usual()) {
-        Ok(image) => match write_sound(alloc, &image, asked, w) {
-            Ok(warned) => { if warned { Ending::Warned } else { Ending::Done } }
-            Err(InfoError::OutOfMemory) => Ending::Memory,
-            Err(InfoError::WriteFault) => Ending::WriteFault,
-        },
-        Err(CheckError::Fault { number, at }) => show_fault(Fault { number, at }, asked, w),
-        Err(CheckError::OutOfMemory) => Ending::Memory,
-    }
+    let answer = check_usual(alloc, bytes);
+    show_answer(alloc, &answer, asked, w)
 }

@@ -10,19 +10,19 @@ use crate::dump::DumpFile;
 use crate::limit::limit_of;
 use crate::output::{coloured_lines, errors, has_colours, lines, output, terminal};
 use crate::patterns::{all_pieces, only};
-use crate::printed::in_file;
+use crate::question::asked_of;
 use crate::reporter::Reporter;
 use crate::stop::{FrontOf, Line, Stop, unread, usage};
 use crate::words::Words;
 use crate::{dump, extracting, totals};
-use command_line::{Cat, Diff, Digest, Extract, Map, MapForm, Verify, Which};
+use command_line::{Cat, Diff, Digest, Extract, Map, MapForm, Question, Verify, Which};
 use image_check::{AnyImage, check};
 use image_info::Numbers;
 use map_forms::is_prefix;
 use rom_commands::{
-    Asked, Ending, Status, Verified, has_addresses, print, print_diff, print_digests,
-    print_extents, print_file, print_header, print_image_digest, print_numbers, print_picture,
-    print_places, print_script, verify_dump,
+    Asked, Ending, Status, Verified, check_usual, has_addresses, print_answer, print_diff,
+    print_digests, print_extents, print_file, print_header, print_image_digest, print_numbers,
+    print_picture, print_places, print_script, verify_dump,
 };
 use rom_faults::{CheckError, Fault};
 use rom_fields::{ByteWrite, Plain, put};
@@ -49,14 +49,15 @@ pub fn loaded(
     rt: &HostRuntime,
     most: Option<u64>,
     name: &str,
-    asked: Asked,
+    question: Question,
 ) -> Result<Loaded, Stop> {
     match reading::image(rt, limit_of(rt, most), name) {
         Ok(Found::Image(image)) => Ok(image),
-        Ok(Found::Refused(front)) if !has_addresses(asked, front.reach as usize) => {
-            Err(usage(rt.alloc(), name, NO_ADDRESS))
-        }
         Ok(Found::Refused(front)) => {
+            let asked = asked_of(question, front.reach);
+            if !has_addresses(asked, front.reach as usize) {
+                return Err(usage(rt.alloc(), name, NO_ADDRESS));
+            }
             let name = String::from_str(rt.alloc(), name)?;
             Err(Stop::Front(name, front, FrontOf::One(asked)))
         }
@@ -96,26 +97,30 @@ fn checked<'a>(name: &str, bytes: &'a [u8], mut words: Words) -> Result<AnyImage
 }
 
 /// Adds by how many bytes an image is too large.
-fn explain_size(words: &mut Words, name: &[u8], bytes: &[u8], limit: u64) {
-    let alloc = words.alloc();
-    let Ok(image) = check(alloc, bytes, Limits::usual()) else {
-        return;
-    };
+fn explain_size(words: &mut Words, name: &[u8], image: &AnyImage<'_>, limit: u64) {
     let size = u64::from(image.size());
     let more = size.saturating_sub(limit);
-    if let Ok(what) = format!(in alloc; "it has {size} bytes, {more} more than {limit}") {
+    if let Ok(what) = format!(in words.alloc(); "it has {size} bytes, {more} more than {limit}") {
         words.add(name, &what);
     }
 }
 
 /// Adds each thing once that the printed lines say of an image, and then why it was refused.
-fn explain_lines(words: &mut Words, name: &[u8], bytes: &[u8], asked: Asked, why: &'static str)
-    requires { Fits asked (length bytes.now) }
+fn explain_lines(
+    words: &mut Words,
+    name: &[u8],
+    answer: &Result<AnyImage<'_>, CheckError>,
+    asked: Asked,
+    why: &'static str,
+)
+    requires shallow { IfOk answer.now (λ v. IsShallow (any_view v).tree) }
+    requires checked { IfOk answer.now IsChecked }
+    requires fits { IfOk answer.now (λ v. Fits asked (length (any_view v).bytes)) }
 {
     let alloc = words.alloc();
     let mut lines = Plain::new(Noted::new(alloc));
     let mut nothing = Plain::new(Vec::new(alloc));
-    print(alloc, bytes, asked, &mut lines, &mut nothing);
+    print_answer(alloc, answer, asked, &mut lines, &mut nothing);
     if let Ok(texts) = lines.into_inner().texts() {
         for text in &texts {
             words.add(name, text);
@@ -126,18 +131,42 @@ fn explain_lines(words: &mut Words, name: &[u8], bytes: &[u8], asked: Asked, why
 
 /// Adds why a valid image was refused: Linux misreads it, does not execute a program in place, or
 /// it does not fit.
-fn explain_warning(words: &mut Words, name: &[u8], bytes: &[u8], asked: Asked)
-    requires { Fits asked (length bytes.now) }
+fn explain_warning(
+    words: &mut Words,
+    name: &[u8],
+    answer: &Result<AnyImage<'_>, CheckError>,
+    asked: Asked,
+)
+    requires shallow { IfOk answer.now (λ v. IsShallow (any_view v).tree) }
+    requires checked { IfOk answer.now IsChecked }
+    requires fits { IfOk answer.now (λ v. Fits asked (length (any_view v).bytes)) }
 {
-    match asked {
-        Asked::Misreads => explain_lines(words, name, bytes, asked, MISREAD),
-        Asked::Programs(_) => explain_lines(words, name, bytes, asked, NOT_IN_PLACE),
-        Asked::Fit { limit, .. } => explain_size(words, name, bytes, limit),
+    match (asked, answer) {
+        (Asked::Misreads, _) => explain_lines(words, name, answer, asked, MISREAD),
+        (Asked::Programs(_), _) => explain_lines(words, name, answer, asked, NOT_IN_PLACE),
+        (Asked::Fit { limit, .. }, Ok(image)) => explain_size(words, name, image, limit),
         _ => {}
     }
 }
 
-/// Prints what is asked of the image in these bytes of the file of this name.
+/// Explains how long the output for an image will be, if it is long.
+fn explain_totals(
+    reporter: &Reporter<'_>,
+    name: &[u8],
+    answer: &Result<AnyImage<'_>, CheckError>,
+    asked: Asked,
+)
+    requires { IfOk answer.now (λ v. IsShallow (any_view v).tree) }
+{
+    if let Ok(image) = answer {
+        let mut words = reporter.words();
+        totals::explain(&mut words, name, image, asked);
+        reporter.tell(&words);
+    }
+}
+
+/// Prints what is asked of the image in these bytes of the file of this name, which is checked
+/// once.
 pub fn show(
     reporter: &Reporter<'_>,
     name: &[u8],
@@ -147,15 +176,17 @@ pub fn show(
     requires { Fits asked (length bytes.now) }
 {
     let (rt, mut err) = (reporter.rt, errors(reporter.rt));
+    let answer = check_usual(rt.alloc(), bytes);
+    explain_totals(reporter, name, &answer, asked);
     let ending = if asked == Asked::Report && has_colours(rt) {
-        print(rt.alloc(), bytes, asked, &mut coloured_lines(rt), &mut err)
+        print_answer(rt.alloc(), &answer, asked, &mut coloured_lines(rt), &mut err)
     } else {
-        print(rt.alloc(), bytes, asked, &mut output(rt)?, &mut err)
+        print_answer(rt.alloc(), &answer, asked, &mut output(rt)?, &mut err)
     };
     reporter.finish_image(err, ending, name, bytes);
     if ending == Ending::Warned && reporter.is_explained() {
         let mut words = reporter.words();
-        explain_warning(&mut words, name, bytes, asked);
+        explain_warning(&mut words, name, &answer, asked);
         reporter.tell(&words);
     }
     Ok(ending.status())
@@ -166,15 +197,12 @@ pub fn show(
 /// # Errors
 ///
 /// Those of `loaded`; `Usage` if some have none.
-pub fn file(reporter: &Reporter<'_>, name: &str, asked: Asked) -> Result<Status, Stop> {
-    let image = loaded(reporter.rt, reporter.most, name, asked)?;
-    let asked = in_file(image.file, asked);
+pub fn file(reporter: &Reporter<'_>, name: &str, question: Question) -> Result<Status, Stop> {
+    let image = loaded(reporter.rt, reporter.most, name, question)?;
+    let asked = asked_of(question, image.file);
     if !has_addresses(asked, image.bytes.len()) {
         return Err(usage(reporter.rt.alloc(), name, NO_ADDRESS));
     }
-    let mut words = reporter.words();
-    totals::explain(&mut words, name.as_bytes(), &image.bytes, asked);
-    reporter.tell(&words);
     show(reporter, name.as_bytes(), &image.bytes, asked)
 }
 
@@ -272,7 +300,7 @@ pub fn map(reporter: &Reporter<'_>, asked: Map<'_>) -> Result<Status, Stop> {
         MapForm::C(_) => print_header(image, base, prefix, &only, &mut out, &mut err),
         MapForm::Script(_) => print_script(image, base, prefix, &only, &mut out, &mut err),
         MapForm::Svg => print_picture(alloc, image, base, file, &mut out, &mut err),
-        _ => print_extents(alloc, image, base, file, &mut out, &mut err),
+        MapForm::All => print_extents(alloc, image, base, file, &mut out, &mut err),
     };
     reporter.finish(err, ending, b"");
     Ok(ending.status())

@@ -3,11 +3,10 @@ ghost use Rattle.std.specs.Prelude.{◌≤◌};
 ghost use Rattle.rom_commands.specs.Asked.{Fits};
 
 use crate::arguments::words;
-use crate::printed::asked_by;
 use crate::reporter::Reporter;
 use crate::stop::Stop;
 use crate::{building, inspect, packing, scan_all, scanning, serving, version};
-use command_line::{Limited, MapForm, Request, read};
+use command_line::{Limited, Question, Request, read};
 use rom_commands::{Asked, Status, hello};
 use system_files::{hold_closed, settle_output};
 
@@ -64,7 +63,7 @@ fn check_each(reporter: &Reporter<'_>, names: &[&str]) -> Result<Status, Stop> {
     let mut greatest = Status::Done;
     for name in names {
         inspect::put_name(reporter.rt, name)?;
-        let status = said(reporter, inspect::file(reporter, name, Asked::Report));
+        let status = said(reporter, inspect::file(reporter, name, Question::Report));
         if status.code() > greatest.code() {
             greatest = status;
         }
@@ -75,19 +74,12 @@ fn check_each(reporter: &Reporter<'_>, names: &[&str]) -> Result<Status, Stop> {
 /// Does what is asked for. Commands with large frames are not inlined, so none needs the stack of
 /// another.
 fn done(reporter: &Reporter<'_>, request: Request<'_>) -> Result<Status, Stop> {
-    let asked = asked_by(&request);
     match request {
         Request::Example => example(reporter),
         Request::Version => version::run(reporter.rt),
         Request::CheckEach(images) => check_each(reporter, images.as_slice()),
-        Request::Check(image) | Request::List(image) => inspect::file(reporter, image, asked),
-        Request::Info(info) => inspect::file(reporter, info.image, asked),
-        Request::Linux(image) => inspect::file(reporter, image, asked),
-        Request::Xip(xip) => inspect::file(reporter, xip.image, asked),
-        Request::Map(map) => match map.form {
-            MapForm::Files => inspect::file(reporter, map.image, asked),
-            _ => inspect::map(reporter, map),
-        },
+        Request::Image(image, question) => inspect::file(reporter, image, question),
+        Request::Map(map) => inspect::map(reporter, map),
         Request::Which(which) => inspect::which(reporter, &which),
         Request::Numbers(numbers) => inspect::numbers(reporter, numbers),
         Request::Cat(cat) => inspect::cat(reporter, cat),

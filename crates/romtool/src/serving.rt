@@ -7,7 +7,7 @@ use crate::reporter::Reporter;
 use crate::stop::{FrontOf, Line, Stop, unread};
 use image_check::check;
 use program_streams::Ahead;
-use rom_commands::{Asked, Ending, Status, serve_on, serve_several_on};
+use rom_commands::{Ending, Status, serve_on, serve_several_on};
 use rom_fields::{ByteRead, Plain};
 use rom_tree::Limits;
 use sentences::reasons::{SPACE_WAITS, WAITS};
@@ -28,7 +28,7 @@ fn is_valid(alloc: Global, bytes: &[u8]) -> bool {
 #[inline(never)]
 pub fn serve(reporter: &Reporter<'_>, name: &str) -> Result<Status, Stop> {
     let rt = reporter.rt;
-    let bytes = loaded(rt, reporter.most, name, Asked::Report)?.bytes;
+    let bytes = loaded(rt, reporter.most, name, Question::Report)?.bytes;
     if reporter.is_typed() && is_valid(rt.alloc(), &bytes) {
         reporter.explain(b"stdin", &WAITS);
     }

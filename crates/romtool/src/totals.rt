@@ -1,13 +1,14 @@
 //! The size of all files of an image, explained before it is printed.
 ghost use Rattle.std.specs.Prelude.{◌≤◌};
 ghost use Rattle.rom_tree.specs.Tree.{IsShallow};
+ghost use Rattle.image_check.specs.Any.{any_view};
 
 use crate::words::Words;
 use elf_format::needs_pages;
-use image_check::check;
+use image_check::AnyImage;
 use rom_commands::Asked;
 use rom_fields::Plain;
-use rom_tree::{Kind, Limits, TreeImage, Walk, front_bytes, longest_run};
+use rom_tree::{Kind, TreeImage, Walk, front_bytes, longest_run};
 use std::io::{self, Write};
 
 /// How many times larger than an image its files may be without an explanation.
@@ -104,23 +105,22 @@ pub fn is_many_times(bytes: u64, len: usize) -> bool {
 
 /// Adds how long the output for an image will be, if its files are many times larger than the
 /// image. This can be so if cramfs files share blocks, or a romfs file has many names.
-pub fn explain(words: &mut Words, name: &[u8], bytes: &[u8], asked: Asked) {
-    let alloc = words.alloc();
+pub fn explain(words: &mut Words, name: &[u8], image: &AnyImage<'_>, asked: Asked)
+    requires { IsShallow (any_view image.now).tree }
+{
     if !words.are_asked() || !matches!(asked, Asked::Map(_) | Asked::Facts(_)) {
         return;
     }
-    let Ok(image) = check(alloc, bytes, Limits::usual()) else {
-        return;
-    };
+    let alloc = words.alloc();
     let Totals {
         contents,
         lines,
         bytes: most,
-    } = totals_of(&image);
-    if !is_many_times(contents, bytes.len()) {
+    } = totals_of(image);
+    let len = image.bytes().len();
+    if !is_many_times(contents, len) {
         return;
     }
-    let len = bytes.len();
     let what = if matches!(asked, Asked::Map(_)) {
         format!(in alloc;
             "its files have {contents} bytes, and the image has {len}, so the map has up to {lines} lines and {most} bytes"
