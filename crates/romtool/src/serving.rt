@@ -5,6 +5,7 @@ use crate::output::errors;
 use crate::replies::Replies;
 use crate::reporter::Reporter;
 use crate::stop::{FrontOf, Line, Stop, unread};
+use command_line::Question;
 use image_check::check;
 use program_streams::Ahead;
 use rom_commands::{Ending, Status, serve_on, serve_several_on};
