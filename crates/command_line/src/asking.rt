@@ -313,10 +313,7 @@ fn in_place_of<'a>(values: &ArgMatches<'a>) -> Result<InPlace, WordsError<'a>>
 }
 
 /// Returns what a subcommand of this name asks of one image, if it does.
-fn question_of<'a>(
-    name: &str,
-    values: &ArgMatches<'a>,
-) -> Result<Option<Question>, WordsError<'a>>
+fn question_of<'a>(name: &str, values: &ArgMatches<'a>) -> Result<Option<Question>, WordsError<'a>>
     ensures asked { IfOk result (λ o. IfSome o (λ q. (image : List ℕ)
         → HasValue (rows_of (found_of values.now)) (codes "image") image
         → IsAskedOfImage (rows_of (found_of values.now)) image q)) }

@@ -179,7 +179,13 @@ pub fn show(
     let answer = check_usual(rt.alloc(), bytes);
     explain_totals(reporter, name, &answer, asked);
     let ending = if asked == Asked::Report && has_colours(rt) {
-        print_answer(rt.alloc(), &answer, asked, &mut coloured_lines(rt), &mut err)
+        print_answer(
+            rt.alloc(),
+            &answer,
+            asked,
+            &mut coloured_lines(rt),
+            &mut err,
+        )
     } else {
         print_answer(rt.alloc(), &answer, asked, &mut output(rt)?, &mut err)
     };

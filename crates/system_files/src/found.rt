@@ -15,22 +15,23 @@ const PART: usize = 16_384;
 /// The SHA-256 of a file, and the state that it had from the first byte to the last.
 pub type Digested = ([u8; 32], Stamp);
 
-/// Opens the regular file of this name that was found, if the name still leads to it: opening a
-/// FIFO would wait for a writer.
-fn open_found(rt: &HostRuntime, name: &str, found: Identity) -> Result<File, Refusal> {
+/// Opens the regular file of this name that was found, and returns its state, if the name still
+/// leads to it: opening a FIFO would wait for a writer.
+fn open_found(rt: &HostRuntime, name: &str, found: Identity) -> Result<(File, Stamp), Refusal> {
     let is_found = |now: &Metadata| now.is_file() && Identity::of(now) == found;
     if is_found(&fs::symlink_metadata(rt, name)?) {
         let file = File::open(rt, name)?;
-        if is_found(&file.metadata()?) {
-            return Ok(file);
+        let now = file.metadata()?;
+        if is_found(&now) {
+            return Ok((file, Stamp::of(&now)));
         }
     }
     Err(Reason::Replaced.into())
 }
 
-/// Reads the first bytes of a file up to a length, or all of the file if it is shorter.
-fn read_front(file: &mut File, bytes: &mut Vec<u8>, most: u64) -> Result<(), Refusal> {
-    let length = file.metadata()?.len();
+/// Reads the first bytes of a file of this length up to a number, or all of the file if it is
+/// shorter.
+fn read_front(file: &mut File, bytes: &mut Vec<u8>, most: u64, length: u64) -> Result<(), Refusal> {
     read_until(file, bytes, most, length)?;
     if (bytes.len() as u64) < most.min(length) {
         return Err(Reason::SourceUnread.into());
@@ -51,11 +52,11 @@ pub fn elf_front(
     found: Identity,
     most: u64,
 ) -> Result<Vec<u8>, Refusal> {
-    let mut file = open_found(rt, name, found)?;
+    let (mut file, state) = open_found(rt, name, found)?;
     let mut bytes = Vec::new(rt.alloc());
-    read_front(&mut file, &mut bytes, MAGIC.len() as u64)?;
+    read_front(&mut file, &mut bytes, MAGIC.len() as u64, state.len)?;
     if bytes.as_slice() == MAGIC {
-        read_front(&mut file, &mut bytes, most)?;
+        read_front(&mut file, &mut bytes, most, state.len)?;
     }
     Ok(bytes)
 }
@@ -100,8 +101,7 @@ pub fn digest_of(
     found: Identity,
     len: u64,
 ) -> Result<Option<Digested>, Refusal> {
-    let mut file = open_found(rt, name, found)?;
-    let was = Stamp::of(&file.metadata()?);
+    let (mut file, was) = open_found(rt, name, found)?;
     let (mut hasher, mut read) = (Sha256::new(), 0u64);
     let mut part = [0u8; PART];
     for _ in 0..u64::MAX {
