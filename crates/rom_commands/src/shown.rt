@@ -1,6 +1,6 @@
 //! What is printed of an image.
-ghost use Rattle.std.specs.Prelude.{◌≡◌, ◌≤◌, ◌↔◌, ◌++◌, ℕ, List, false, length, not, None, Err, IfOk};
-ghost use Rattle.std.specs.Prelude.{IsTrue};
+ghost use Rattle.std.specs.Prelude.{◌≡◌, ◌≤◌, ◌↔◌, ◌++◌, ℕ, List, false, length, not, None, Err};
+ghost use Rattle.std.specs.Prelude.{IfOk, IsTrue};
 ghost use Rattle.rom_fields.specs.Failures.{Counts};
 ghost use Rattle.rom_fields.specs.Written.{WritesText};
 ghost use Rattle.rom_tree.specs.Tree.{IsShallow};
@@ -170,8 +170,8 @@ fn show_fault<W: ByteWrite>(fault: Fault, asked: Asked, w: &mut W) -> Ending<'st
     }
 }
 
-/// Writes the line of the fault that a check under the usual limits found, if it belongs in place of
-/// what is asked.
+/// Writes the line of the fault that a check under the usual limits found, if it belongs in place
+/// of what is asked.
 fn show_error<W: ByteWrite>(error: CheckError, asked: Asked, w: &mut W) -> Ending<'static>
     ensures { (bytes : List ℕ) → IsAnswer bytes (Err error)
         → Ends bytes asked (W.output w.old) (W.output w.new) result }
@@ -196,8 +196,8 @@ pub fn check_usual<'a>(alloc: Global, bytes: &'a [u8]) -> Result<AnyImage<'a>, C
     check(alloc, bytes, Limits::usual())
 }
 
-/// Writes what is asked of an image of which a check under the usual limits answered this, as `show`
-/// does.
+/// Writes what is asked of an image of which a check under the usual limits answered this, as
+/// `show` does.
 pub(crate) fn show_answer<W: ByteWrite>(
     alloc: Global,
     answer: &Result<AnyImage<'_>, CheckError>,
