@@ -36,3 +36,6 @@ mod Pathed
 mod Aligning
 mod Layered
 mod Spots
+mod Grouped
+mod Keyed
+mod Joining

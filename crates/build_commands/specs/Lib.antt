@@ -30,3 +30,5 @@ pub mod DeviceTable
 pub mod Alignments
 pub mod Laying
 pub mod Programs
+pub mod Equal
+pub mod Grouping

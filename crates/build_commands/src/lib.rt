@@ -38,6 +38,11 @@
 //!   found is not replaced. All files are in the order of their paths, before and after.
 //! - `alignments::align_all`, `rights::own_all`: each file gets its alignment, and each name of a
 //!   file with several links the largest of its names; each gets an owner; nothing else changes.
+//! - `equal::{to_compare, share_equal}`: the digest of a regular file decides whether it shares its
+//!   contents exactly if it has 1 to 2^24 - 1 bytes and another such file has its length, mode,
+//!   owner and group. Of several such files that also have one digest, exactly the later ones
+//!   become further names of the first, which then has several links; nothing else changes. At an
+//!   error no file changed.
 //! - `programs::{spots_of, programs_of}`: where the contents of each source are in a planned image,
 //!   and whether the next data are in their last page; the programs, their pages and those that are
 //!   not executed in place, by the verdicts on the sources.
@@ -98,6 +103,7 @@ mod command;
 mod companion;
 pub mod device_table;
 pub mod devices;
+pub mod equal;
 mod extract;
 mod fate;
 mod fits;
