@@ -3,7 +3,7 @@
 ghost use Rattle.std.specs.Prelude.{◌≡◌, [], true, Some, IfOk};
 ghost use Rattle.image_manifest.specs.Describable.{IsLawfulTree};
 ghost use Rattle.image_manifest.specs.ExtractedMembers.{members_in};
-ghost use Rattle.tree_extract.specs.Extracted.{AreOf, AreRightsLast, IsExtracted};
+ghost use Rattle.tree_extract.specs.Extracted.{AreOf, IsExtracted};
 ghost use Rattle.tree_extract.specs.Safe.{AreSafe};
 ghost use Rattle.library_tests.specs.Kept.{log_of};
 ghost use Rattle.library_tests.specs.Sample.{root};
@@ -33,8 +33,8 @@ impl Filled for Top<'_> {
     // It was finished before.
     type Error = Failed;
 
-    // It was finished once, and nothing was made after the rights of a directory were set.
-    ghost finished = { λ t log. (t.times ≡ 1) × AreRightsLast log };
+    // It was finished once, and all members were made.
+    ghost finished = { λ t fresh ms log. (t.times ≡ 1) × IsExtracted fresh ms log };
 
     fn finish<D: Directory>(&mut self, _: &D) -> Result<(), Failed> {
         if self.times > 0 {
@@ -75,10 +75,8 @@ fn extracted(alloc: Global, giving: Giving, calls: u64) -> Result<Left, Fail>
     ensures safe { IfOk result (λ l. AreSafe (log_of l.notes.items)) }
     ensures only { IfOk result (λ l. AreOf (Some []) (members_in giving sample)
         (log_of l.notes.items)) }
-    ensures made { IfOk result (λ l. l.is_done ≡ true → IsExtracted (Some [])
-        (members_in giving sample) (log_of l.notes.items)) }
     ensures finished { IfOk result (λ l. l.is_done ≡ true → (l.times ≡ 1)
-        × AreRightsLast (log_of l.notes.items)) }
+        × IsExtracted (Some []) (members_in giving sample) (log_of l.notes.items)) }
 {
     sample_is_lawful();
     let names = members(alloc, &Sample)?;
