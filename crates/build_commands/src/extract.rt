@@ -1,10 +1,11 @@
 //! The command `extract`: an image is taken apart into a directory, and its manifest is printed.
-ghost use Rattle.std.specs.Prelude.{◌≡◌, [], List, IfErr, OnErr, OnOk};
+ghost use Rattle.std.specs.Prelude.{◌≡◌, ℕ, [], List, Option, IfErr, OnErr, OnOk};
 ghost use Rattle.build_commands.specs.Extracts.{IsCutShort, IsDescribedBy, IsExtractAfter};
 ghost use Rattle.image_manifest.specs.Describable.{IsLawfulTree};
 ghost use Rattle.image_manifest.specs.ExtractedMembers.{made_in};
 ghost use Rattle.tree_extract.specs.Extracted.{AreOf, IsExtracted};
 ghost use Rattle.tree_extract.specs.Log.{Event};
+ghost use Rattle.tree_extract.specs.Members.{Member};
 ghost use Rattle.tree_extract.specs.Safe.{AreSafe};
 
 use image_manifest::{FileRules, ImageTree, write_manifest};
@@ -18,8 +19,8 @@ pub trait Filled {
     type Error: Drop;
 
     // The directory was given its mode and owner after this was asked of what fills it, newest
-    // first.
-    ghost finished: { Self → List Event → Type 0 };
+    // first. These are its members, and the bytes of a new file, if they are known.
+    ghost finished: { Self → Option (List ℕ) → List Member → List Event → Type 0 };
 
     /// Gives the directory its mode and owner, after all of its members were made and have theirs.
     ///
@@ -28,7 +29,8 @@ pub trait Filled {
     /// Those of the system.
     fn finish<D: Directory>(&mut self, directory: &D) -> Result<(), Self::Error>
         requires { IsExtracted D.fresh (D.members directory.now) (D.log directory.now) }
-        ensures { OnOk result (finished self.new (D.log directory.now)) };
+        ensures { OnOk result (finished self.new D.fresh (D.members directory.now)
+            (D.log directory.now)) };
 }
 
 /// What a manifest has besides the image: the volume's name, and rules for files.
@@ -94,7 +96,8 @@ pub fn extract_image<'b, 'a, T: TreeImage<'a>, D: Directory, F: Filled, W: ByteW
         tree.now.kinds.now) (D.log directory.new) }
     ensures made { OnOk result (IsExtracted D.fresh (made_in tree.now.giving
         (T.image tree.now.image.now) tree.now.kinds.now) (D.log directory.new)) }
-    ensures finished { OnOk result (F.finished filled.new (D.log directory.new)) }
+    ensures finished { OnOk result (F.finished filled.new D.fresh (made_in tree.now.giving
+        (T.image tree.now.image.now) tree.now.kinds.now) (D.log directory.new)) }
     ensures printed { OnOk result (IsDescribedBy (T.image tree.now.image.now) description.entry
         (W.output out.old) (W.output out.new)) }
     ensures err { IfErr result (IsExtractAfter D.fresh (made_in tree.now.giving

@@ -1,3 +1,5 @@
 mod Known
 mod Mountable
 pub mod Answering
+mod Lawful
+mod Noted

@@ -103,7 +103,7 @@ impl Filled for Entered {
     type Error = io::Error;
 
     // What the system answered. Others may change the directory at any time.
-    ghost finished = { λ e _. e.is_finished ≡ true };
+    ghost finished = { λ e _ _ _. e.is_finished ≡ true };
 
     fn finish<D: Directory>(&mut self, _: &D) -> io::Result<()> {
         let Some(top) = self.top.take() else {
