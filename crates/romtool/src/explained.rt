@@ -3,6 +3,7 @@ ghost use Rattle.std.specs.Prelude.{◌≡◌, length};
 ghost use Rattle.manifest.specs.Lines.{sources_of};
 
 use crate::origin::Origin;
+use crate::several::Several;
 use crate::words::Words;
 use layout_plan::misfits;
 use manifest::bad_lines;
@@ -13,7 +14,7 @@ use std::fmt::Display;
 use system_files::{Others, Target, part_path};
 
 /// The most lines that are bad or do not fit of which each is explained, beside the first.
-const MOST_SAID: usize = 19;
+const MOST_SAID: u64 = 19;
 
 /// Adds what is said of a line of a manifest. Line 0 is the whole.
 fn of_line<W: Display>(
@@ -66,11 +67,13 @@ fn try_other_bad_lines(words: &mut Words, manifest: &str, text: &[u8]) -> Result
     let Ok(all) = bad_lines(alloc, text) else {
         return Err(AllocError);
     };
-    for other in all.iter().skip(1).take(MOST_SAID) {
-        try_bad_manifest(words, manifest, text, other.line, other.number)?;
+    let mut several = Several::new(MOST_SAID);
+    for other in all.iter().skip(1) {
+        if several.says() {
+            try_bad_manifest(words, manifest, text, other.line, other.number)?;
+        }
     }
-    let more = all.len().saturating_sub(MOST_SAID.saturating_add(1));
-    if more > 0 {
+    if let Some(more) = several.more() {
         let what = format!(in alloc; "{more} more lines are bad")?;
         words.add(manifest.as_bytes(), &what);
     }
@@ -141,15 +144,13 @@ fn try_other_misfits(
     let Ok(all) = misfits(alloc, origin.manifest, sizes, format) else {
         return Err(AllocError);
     };
-    let mut more = 0u64;
-    for (said, other) in all.iter().filter(|other| other.line > first).enumerate() {
-        if said < MOST_SAID {
+    let mut several = Several::new(MOST_SAID);
+    for other in all.iter().filter(|other| other.line > first) {
+        if several.says() {
             try_misfit(words, format, origin, sizes, (other.line, other.number))?;
-        } else {
-            more = more.saturating_add(1);
         }
     }
-    if more > 0 {
+    if let Some(more) = several.more() {
         let what = format!(in alloc; "{more} more do not fit")?;
         words.add(origin.name.as_bytes(), &what);
     }

@@ -42,6 +42,7 @@ mod reporter;
 mod scan_all;
 mod scanning;
 mod serving;
+mod several;
 mod sources;
 mod stop;
 mod totals;

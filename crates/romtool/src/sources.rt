@@ -3,6 +3,7 @@ ghost use Rattle.std.specs.Prelude.{◌≡◌, length, map, IfOk};
 ghost use Rattle.build_commands.specs.Sources.{joined};
 
 use crate::origin::Origin;
+use crate::several::Several;
 use crate::stop::{Line, Stop};
 use crate::words::Words;
 use build_commands::joined_name;
@@ -12,8 +13,8 @@ use std::alloc::{AllocError, AllocFailed, Global};
 use std::str;
 use system_files::{Reason, Refusal, Stamp, stamp_of, stamp_unlinked};
 
-/// The most missing sources that are explained one by one.
-const MOST_SAID: u64 = 20;
+/// The most missing sources that are explained one by one, beside the first.
+const MOST_SAID: u64 = 19;
 
 /// Why sources cannot be used.
 #[derive(Drop)]
@@ -73,18 +74,15 @@ fn explain_others(rt: &HostRuntime, words: &mut Words, origin: Origin<'_>, first
     if !words.are_asked() {
         return;
     }
-    let (mut said, mut more) = (1u64, 0u64);
+    let mut several = Several::new(MOST_SAID);
     for number in first.saturating_add(1)..origin.count() {
-        if let Some(why) = why_missing(rt, origin, number) {
-            if said < MOST_SAID {
-                words.add_refused_source(origin, number, why);
-                said = said.saturating_add(1);
-            } else {
-                more = more.saturating_add(1);
-            }
+        if let Some(why) = why_missing(rt, origin, number)
+            && several.says()
+        {
+            words.add_refused_source(origin, number, why);
         }
     }
-    if more > 0
+    if let Some(more) = several.more()
         && let Ok(what) = format!(in rt.alloc(); "{more} more sources cannot be read")
     {
         words.add(origin.name.as_bytes(), &what);

@@ -4,6 +4,7 @@ ghost use Rattle.manifest.specs.Lines.{sources_of};
 
 use crate::origin::Origin;
 use crate::reporter::Reporter;
+use crate::several::Several;
 use build_commands::programs::Unplaced;
 use build_commands::{Warning, Warnings, last_blocks, warning_name};
 use manifest::Line;
@@ -16,7 +17,7 @@ use std::alloc::AllocError;
 const LAST_BLOCK: usize = 1;
 
 /// How many further files that end with a whole block are named one by one.
-const MOST_NAMED: usize = 20;
+const MOST_NAMED: u64 = 20;
 
 /// Explains the warning of one number.
 fn explain_one(
@@ -80,11 +81,13 @@ fn explain_blocks(
     let Ok(all) = last_blocks(alloc, origin.manifest, sizes) else {
         return Err(AllocError);
     };
-    for line in all.iter().skip(1).take(MOST_NAMED) {
-        explain_block(reporter, origin, line)?;
+    let mut several = Several::new(MOST_NAMED);
+    for line in all.iter().skip(1) {
+        if several.says() {
+            explain_block(reporter, origin, line)?;
+        }
     }
-    let more = all.len().saturating_sub(1 + MOST_NAMED);
-    if more > 0 {
+    if let Some(more) = several.more() {
         let what = format!(in alloc; "{more} more files with LastBlock")?;
         reporter.explain(origin.name.as_bytes(), &what);
     }
