@@ -253,14 +253,14 @@ split_find test (x ∷ xs) f h = by (λ g. split_find test xs f g) (test x) refl
         }
     by rest false e g = more e (rest g)
 
-find_front : (test : NamedFile → Bool) (xs ys : List NamedFile) (f : NamedFile) → find test xs ≡ Some f
+pub find_front : (test : NamedFile → Bool) (xs ys : List NamedFile) (f : NamedFile) → find test xs ≡ Some f
     → find test (xs ++ ys) ≡ Some f
 find_front test [] ys f h = absurd (cc)
 find_front test (x ∷ xs) ys f h = elim (test x) as
     (λ v. cond v (Some x) (find test xs) ≡ Some f → cond v (Some x) (find test (xs ++ ys)) ≡ Some f)
     [ true ↦ λ g. g | false ↦ λ g. find_front test xs ys f g ] h
 
-find_next : (test : NamedFile → Bool) (xs ys : List NamedFile) (f : NamedFile) → find test xs ≡ None → test f ≡ true
+pub find_next : (test : NamedFile → Bool) (xs ys : List NamedFile) (f : NamedFile) → find test xs ≡ None → test f ≡ true
     → find test (xs ++ f ∷ ys) ≡ Some f
 find_next test [] ys f h t = ap (λ (v : Bool). cond v (Some f) (find test ys)) t
 find_next test (x ∷ xs) ys f h t = elim (test x) as
@@ -304,7 +304,7 @@ are_of_one f g h t =
       number = sym (eqb-true g.inode.number f.inode.number a.1);
     }
 
-own_test : (f : NamedFile) → f.has_links ≡ true → of_file f f ≡ true
+pub own_test : (f : NamedFile) → f.has_links ≡ true → of_file f f ≡ true
 own_test f h = rw (h, eq-eqb f.inode.device f.inode.device refl, eq-eqb f.inode.number f.inode.number refl) refl
 
 pub links_is : (f : NamedFile) (xs : List NamedFile) → f.has_links ≡ true → first_link f xs ≡ find (of_file f) xs
@@ -422,7 +422,7 @@ first_led j b f a g t h n e = by (find (of_file f) b) refl
         (of_first j b f a k t h n (split_find (of_file f) b k i) i).0
         ∙ ap (λ (v : NamedFile). led (all_taken j (b ++ f ∷ a)) (path_of v)) z
 
-first_there : (f : NamedFile) (b a : List NamedFile) → f.has_links ≡ true
+pub first_there : (f : NamedFile) (b a : List NamedFile) → f.has_links ≡ true
     → (g : NamedFile) × (find (of_file f) (b ++ f ∷ a) ≡ Some g)
 first_there f b a h = by (find (of_file f) b) refl
   where
