@@ -6,6 +6,8 @@ pub mod Printed
 mod Capacities
 mod Meant
 mod Reported
+mod Filed
+mod Contained
 mod Apart
 mod Fitting
 mod ScanFound

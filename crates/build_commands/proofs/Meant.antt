@@ -46,14 +46,14 @@ taken_front : (latest : List Line) (n : ℕ) (xs ys : List Line) → AreTaken la
 taken_front latest n [] ys h = tt
 taken_front latest n (x ∷ xs) ys h = (h.0, h.1, taken_front (numbered n x ∷ latest) (n + 1) xs ys h.2)
 
-same_path : (p : List ℕ) → bytes_eq p p ≡ true
+pub same_path : (p : List ℕ) → bytes_eq p p ≡ true
 same_path p = (bytes_decides p p).1 refl
 
 true_false : (b : Bool) → b ≡ true → b ≡ false → ⊥
 true_false b h g = cc
 
 -- a line that is accepted has another path than those before it
-other_path : (latest : List Line) (n : ℕ) (l : Line) (p : List ℕ) → fault_of latest (numbered n l) ≡ None
+pub other_path : (latest : List Line) (n : ℕ) (l : Line) (p : List ℕ) → fault_of latest (numbered n l) ≡ None
     → is_some (line_at latest p) ≡ true → bytes_eq l.path p ≡ false
 other_path latest n l p f h = by (bytes_eq l.path p) refl
   where
@@ -253,14 +253,14 @@ split_find test (x ∷ xs) f h = by (λ g. split_find test xs f g) (test x) refl
         }
     by rest false e g = more e (rest g)
 
-find_front : (test : NamedFile → Bool) (xs ys : List NamedFile) (f : NamedFile) → find test xs ≡ Some f
+pub find_front : (test : NamedFile → Bool) (xs ys : List NamedFile) (f : NamedFile) → find test xs ≡ Some f
     → find test (xs ++ ys) ≡ Some f
 find_front test [] ys f h = absurd (cc)
 find_front test (x ∷ xs) ys f h = elim (test x) as
     (λ v. cond v (Some x) (find test xs) ≡ Some f → cond v (Some x) (find test (xs ++ ys)) ≡ Some f)
     [ true ↦ λ g. g | false ↦ λ g. find_front test xs ys f g ] h
 
-find_next : (test : NamedFile → Bool) (xs ys : List NamedFile) (f : NamedFile) → find test xs ≡ None → test f ≡ true
+pub find_next : (test : NamedFile → Bool) (xs ys : List NamedFile) (f : NamedFile) → find test xs ≡ None → test f ≡ true
     → find test (xs ++ f ∷ ys) ≡ Some f
 find_next test [] ys f h t = ap (λ (v : Bool). cond v (Some f) (find test ys)) t
 find_next test (x ∷ xs) ys f h t = elim (test x) as
@@ -280,7 +280,7 @@ split_at (x ∷ xs) f (suc k, l, e) =
     let s = split_at xs f (k, omega (arith, l), e) in
     record { before = x ∷ s.before; after = s.after; is = ap (λ (v : List NamedFile). x ∷ v) s.is }
 
-contains_at : (before : List NamedFile) (f : NamedFile) (after : List NamedFile) → Contains (before ++ f ∷ after) f
+pub contains_at : (before : List NamedFile) (f : NamedFile) (after : List NamedFile) → Contains (before ++ f ∷ after) f
 contains_at [] f after = (0, omega arith, refl)
 contains_at (x ∷ xs) f after =
     let c = contains_at xs f after in (suc c.0, (let l = c.1 in omega (arith, l)), c.2)
@@ -290,10 +290,10 @@ and_both true b h = (refl, h)
 and_both false b h = absurd (cc)
 
 -- the names of the file of f
-abbrev of_file : NamedFile → NamedFile → Bool
+abbrev pub of_file : NamedFile → NamedFile → Bool
 of_file f = is_linked f.inode.device f.inode.number
 
-are_of_one : (f g : NamedFile) → f.has_links ≡ true → of_file f g ≡ true → AreOfOne f g
+pub are_of_one : (f g : NamedFile) → f.has_links ≡ true → of_file f g ≡ true → AreOfOne f g
 are_of_one f g h t =
     let a = and_both (g.has_links && (g.inode.device == f.inode.device)) (g.inode.number == f.inode.number) t in
     let b = and_both g.has_links (g.inode.device == f.inode.device) a.0 in
@@ -304,13 +304,13 @@ are_of_one f g h t =
       number = sym (eqb-true g.inode.number f.inode.number a.1);
     }
 
-own_test : (f : NamedFile) → f.has_links ≡ true → of_file f f ≡ true
+pub own_test : (f : NamedFile) → f.has_links ≡ true → of_file f f ≡ true
 own_test f h = rw (h, eq-eqb f.inode.device f.inode.device refl, eq-eqb f.inode.number f.inode.number refl) refl
 
-links_is : (f : NamedFile) (xs : List NamedFile) → f.has_links ≡ true → first_link f xs ≡ find (of_file f) xs
+pub links_is : (f : NamedFile) (xs : List NamedFile) → f.has_links ≡ true → first_link f xs ≡ find (of_file f) xs
 links_is f xs h = ap (λ (v : Bool). cond v (first_of f.inode.device f.inode.number xs) None) h
 
-no_links : (f : NamedFile) (xs : List NamedFile) → f.has_links ≡ false → first_link f xs ≡ None
+pub no_links : (f : NamedFile) (xs : List NamedFile) → f.has_links ≡ false → first_link f xs ≡ None
 no_links f xs h = ap (λ (v : Bool). cond v (first_of f.inode.device f.inode.number xs) None) h
 
 -- a first name is not a further name of any before it
@@ -422,7 +422,7 @@ first_led j b f a g t h n e = by (find (of_file f) b) refl
         (of_first j b f a k t h n (split_find (of_file f) b k i) i).0
         ∙ ap (λ (v : NamedFile). led (all_taken j (b ++ f ∷ a)) (path_of v)) z
 
-first_there : (f : NamedFile) (b a : List NamedFile) → f.has_links ≡ true
+pub first_there : (f : NamedFile) (b a : List NamedFile) → f.has_links ≡ true
     → (g : NamedFile) × (find (of_file f) (b ++ f ∷ a) ≡ Some g)
 first_there f b a h = by (find (of_file f) b) refl
   where

@@ -7,6 +7,7 @@ use Rattle.std.specs.Cmp.Lexicographic.{bytes_decides}
 use Rattle.std.specs.List.{Contains, list_any}
 use Rattle.std.specs.Option.{option_map, option_and_then}
 use Rattle.std.specs.Str.{bytes_eq}
+use Rattle.record_forest.specs.Members.{Has}
 use Rattle.rom_tree.specs.Tree.{Node, node, directory, regular, symlink, block, character, socket, fifo, ino_of}
 use Rattle.rom_tree.specs.declared.types.Kind.{Kind}
 use Rattle.rom_tree.specs.declared.types.Kind.TheVariants as node_kind
@@ -93,9 +94,8 @@ module _ (contents : List (List ℕ)) (all : List Line) (sizes : List ℕ) (k : 
 
 -- ---- names lead to the file at a path
 
-abbrev HasPath : List ℕ → List Line → Type 0
-HasPath p [] = ⊥
-HasPath p (l ∷ ls) = (l.path ≡ p) ⊎ HasPath p ls
+abbrev pub HasPath : List ℕ → List Line → Type 0
+HasPath p ls = Has (λ l. l.path ≡ p) ls
 
 names_same : (ns : List (List ℕ)) → names_eq ns ns ≡ true
 names_same [] = refl
@@ -157,10 +157,10 @@ find_named p n ns (x ∷ xs) e h = by (λ k. find_named p n ns xs e k) (is_named
           path = r.path;
         }
 
-none_some : {X : Type 0} (x : X) → None ≡ Some x → ⊥
+pub none_some : {X : Type 0} (x : X) → None ≡ Some x → ⊥
 none_some x e = cc
 
-some_same : {X : Type 0} (x y : X) → Some x ≡ Some y → x ≡ y
+pub some_same : {X : Type 0} (x y : X) → Some x ≡ Some y → x ≡ y
 some_same x y e = cc
 
 -- only the root's path has no names
@@ -191,7 +191,7 @@ root_path p h = by (is_bad 4095 p) p h
     by true p h = absurd (none_some [] h)
     by false p h = from p h
 
-named_at : (all : List Line) (sizes : List ℕ) (p : List ℕ) (q : List (List ℕ)) (i : Inode) → names_of p ≡ Some q
+pub named_at : (all : List Line) (sizes : List ℕ) (p : List ℕ) (q : List (List ℕ)) (i : Inode) → names_of p ≡ Some q
     → HasPath p all → file_at all sizes p ≡ Some i → file_named all sizes q ≡ Some i
 unfolding root_of
 named_at all sizes p [] i e h f =

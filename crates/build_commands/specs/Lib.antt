@@ -7,6 +7,7 @@ pub mod Printed
 pub mod Changed
 pub mod Warnings
 pub mod Reported
+pub mod Contents
 pub mod ScanPrinted
 pub mod Scans
 pub mod Names

@@ -3,6 +3,7 @@ ghost use Rattle.std.specs.List.{Contains};
 ghost use Rattle.std.specs.List.Sorted.{IsPermutation};
 ghost use Rattle.std.specs.Prelude.{ℕ, ◌≡◌, ◌≢◌, Bool, IsSomeAnd, List, None, Ok, Option, Some, []};
 ghost use Rattle.std.specs.Prelude.{false, length};
+ghost use Rattle.build_commands.specs.Contents.{HasItsContents, HaveOneKind};
 ghost use Rattle.build_commands.specs.Foreseen.{AreMisreadAlike, IsFileOf};
 ghost use Rattle.build_commands.specs.Inventory.{lines_found, path_of};
 ghost use Rattle.build_commands.specs.Nearest.{HasSmallNumbers, nearest_in};
@@ -18,7 +19,7 @@ ghost use Rattle.formats.specs.declared.format.Format as code;
 ghost use Rattle.linux_misreads.specs.Misreads.{in_romfs};
 ghost use Rattle.linux_misreads.specs.Tables.{romfs_view};
 ghost use Rattle.manifest.specs.Grammar.{manifest_of};
-ghost use Rattle.manifest.specs.Lines.{is_hard};
+ghost use Rattle.manifest.specs.Lines.{is_hard, sources_of};
 ghost use Rattle.manifest.specs.Paths.{names_of};
 ghost use Rattle.manifest.specs.Printed.{IsVolume, as_read, first_number, manifest_text};
 ghost use Rattle.manifest.specs.Printed as printed;
@@ -27,6 +28,7 @@ ghost use Rattle.manifest_layout.specs.Misfit.{HasBadAttribute};
 ghost use Rattle.manifest_tree.specs.Meant.{IsMeant};
 ghost use Rattle.manifest_tree.specs.Shape.{node_under};
 ghost use Rattle.manifest_tree.specs.Tree.{inode_of};
+ghost use Rattle.rom_tree.specs.Image.{contents_of};
 ghost use Rattle.rom_tree.specs.Tree.{IsIn, Node, ino_of, nodes};
 ghost use Rattle.rom_tree.specs.declared.types.Kind.TheVariants as kind;
 ghost use Rattle.romfs_image.specs.declared.image.Romfs.{Romfs};
@@ -75,6 +77,34 @@ pub fn found_files_are_meant()
         → kind_named f.kind ≢ kind.Directory → kind_named g.kind ≢ kind.Directory
         → names_of (path_of f) ≡ Some p → names_of (path_of g) ≡ Some q
         → node_under p t ≡ Some x → node_under q t ≡ Some y → ino_of x ≡ ino_of y }
+{}
+
+/// States which contents the regular files of a scanned manifest have, whatever format was chosen,
+/// if the grammar accepts each line, and if the system reports one kind of a file by each of its
+/// names: the path of each regular file that was found has a node that is a regular file, with the
+/// contents of a source whose name is the place by which this file, or another name of the same
+/// file, was found; and two names of one regular file have the same contents.
+pub fn found_files_have_their_contents()
+    ensures sourced { (format : Option code.Format) (found : List NamedFile)
+        (volume image : List ℕ) (t : Node) (contents : List (List ℕ)) (sizes : List ℕ)
+        → printed.AreTaken [] (first_number volume) (lines_found format found)
+        → IsMeant image t contents (as_read volume (lines_found format found)) sizes
+        → HaveOneKind found
+        → (f : NamedFile) (q : List (List ℕ)) → Contains found f
+        → kind_named f.kind ≡ kind.Regular → names_of (path_of f) ≡ Some q
+        → IsSomeAnd (node_under q t) (λ x. HasItsContents image found
+        (sources_of (as_read volume (lines_found format found)).lines) contents f x) }
+    ensures shared { (format : Option code.Format) (found : List NamedFile)
+        (volume image : List ℕ) (t : Node) (contents : List (List ℕ)) (sizes : List ℕ)
+        → printed.AreTaken [] (first_number volume) (lines_found format found)
+        → IsMeant image t contents (as_read volume (lines_found format found)) sizes
+        → HaveOneKind found
+        → (f g : NamedFile) (p q : List (List ℕ)) (x y : Node)
+        → Contains found f → Contains found g → AreOfOne f g
+        → kind_named f.kind ≡ kind.Regular
+        → names_of (path_of f) ≡ Some p → names_of (path_of g) ≡ Some q
+        → node_under p t ≡ Some x → node_under q t ≡ Some y
+        → contents_of image x ≡ contents_of image y }
 {}
 
 /// States that a scan prints the manifest of a tree. Take the entries of a directory as a walk
