@@ -1,6 +1,8 @@
 -- `told_in`: what a build foresees that Linux would misread in the image of a manifest, by number:
--- of how many lines it is told, and of which first. `IsLeastOf`: the least of them. (This
--- project's own.)
+-- of how many lines it is told, and of which first. `IsLeastOf`: the least of them.
+-- `AreMisreadAlike`, `AreCramfsMisreadAlike`: the same is misread in an image and in a plan, except
+-- where bytes begin, the room of a name and shared tables. `IsFileOf`, `IsKeptAs`: what a node and
+-- its table have to be for this. (This project's own.)
 use Rattle.std.specs.Prelude.{◌≡◌, ℕ, ◌+◌, ◌<◌, ◌≤◌, ◌==◌, ◌⊎◌, nat_lt, Bool, true, false, List, []}
 use Rattle.std.specs.Prelude.{◌∷◌, if◌then◌else◌, filter, length, reverse, Option, Some, None}
 use Rattle.std.specs.Prelude.{MatchOption}
