@@ -21,7 +21,7 @@ use Rattle.linux_misreads.specs.declared.seen.Seen.{Seen}
 use Rattle.build_commands.specs.Foreseen.{AreMisreadAlike, IsFileOf}
 use Rattle.build_commands.specs.Planned.{last_of, planned, romfs_path, text_by}
 
-device_kind : (x : Node) → is_device_kind (kind_of x) ≡ is_device x
+pub device_kind : (x : Node) → is_device_kind (kind_of x) ≡ is_device x
 device_kind (node a (directory es)) = refl
 device_kind (node a (regular ps)) = refl
 device_kind (node a (symlink ps)) = refl
@@ -65,7 +65,7 @@ planned_text contents lines sizes o = by o.word
     by Hard = refl
 
 -- the file of a node, of which Linux makes a device of this number
-seen_is : (image : List ℕ) (contents : List (List ℕ)) (x : Node) (i : Inode) (n : ℕ) → IsFileOf image contents x i
+pub seen_is : (image : List ℕ) (contents : List (List ℕ)) (x : Node) (i : Inode) (n : ℕ) → IsFileOf image contents x i
     → seen_of n x ≡ planned n i
 unfolding node_value file_value
 seen_is image contents x i n h =
@@ -81,7 +81,7 @@ seen_is image contents x i n h =
     )
 
 -- only the number of a device counts
-number_counts : (s : Seen) (m n : ℕ) → (is_device_kind s.kind ≡ true → m ≡ n)
+pub number_counts : (s : Seen) (m n : ℕ) → (is_device_kind s.kind ≡ true → m ≡ n)
     → is_other_device (record s { device = m }) ≡ is_other_device (record s { device = n })
 number_counts s m n h = by (is_device_kind s.kind) h
   where
@@ -90,7 +90,7 @@ number_counts s m n h = by (is_device_kind s.kind) h
     by true e = ap (λ (k : ℕ). not (names_device k s.major s.minor)) (e refl)
     by false e = refl
 
-text_is : (image : List ℕ) (contents : List (List ℕ)) (lines : List Line) (sizes : List ℕ) (o : Line) (x : Node)
+pub text_is : (image : List ℕ) (contents : List (List ℕ)) (lines : List Line) (sizes : List ℕ) (o : Line) (x : Node)
     → IsFileOf image contents x (inode_of lines sizes o)
     → text_in image x ≡ text_by (inode_of lines sizes o).fill
 unfolding node_value file_value

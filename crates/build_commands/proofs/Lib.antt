@@ -24,6 +24,7 @@ mod Told
 mod Blocks
 mod Least
 mod Alike
+mod AlikeCramfs
 mod Overlaid
 mod Ordered
 mod Attributed

@@ -1,6 +1,8 @@
 -- `told_in`: what a build foresees that Linux would misread in the image of a manifest, by number:
--- of how many lines it is told, and of which first. `IsLeastOf`: the least of them. (This
--- project's own.)
+-- of how many lines it is told, and of which first. `IsLeastOf`: the least of them.
+-- `AreMisreadAlike`, `AreCramfsMisreadAlike`: the same is misread in an image and in a plan, except
+-- where bytes begin, the room of a name and shared tables. `IsFileOf`, `IsKeptAs`: what a node and
+-- its table have to be for this. (This project's own.)
 use Rattle.std.specs.Prelude.{◌≡◌, ℕ, ◌+◌, ◌<◌, ◌≤◌, ◌==◌, ◌⊎◌, nat_lt, Bool, true, false, List, []}
 use Rattle.std.specs.Prelude.{◌∷◌, if◌then◌else◌, filter, length, reverse, Option, Some, None}
 use Rattle.std.specs.Prelude.{MatchOption}
@@ -14,6 +16,7 @@ use Rattle.rom_tree.specs.Tree.{Node, places_of}
 use Rattle.linux_misreads.specs.Differences.{is_root_missed}
 use Rattle.linux_misreads.specs.declared.judged.CramfsMisreads.{CramfsMisreads}
 use Rattle.linux_misreads.specs.declared.judged.RomfsMisreads.{RomfsMisreads}
+use Rattle.linux_misreads.specs.declared.seen.Known.{Known}
 use Rattle.build_commands.specs.Planned.{cramfs_by, romfs_by}
 use Rattle.build_commands.specs.declared.warnings.Warning.{Warning}
 use Rattle.build_commands.specs.declared.limits.Misread.{Misread}
@@ -106,6 +109,17 @@ pub record AreMisreadAlike (a b : RomfsMisreads) : Type 0 where
   pub long : a.name_too_long ≡ b.name_too_long
   pub device : a.device ≡ b.device
   pub link : a.link_cut ≡ b.link_cut
+
+-- the same last blocks, devices, links and modes of the root are misread
+pub record AreCramfsMisreadAlike (a b : CramfsMisreads) : Type 0 where
+  pub last_block : a.last_block ≡ b.last_block
+  pub device : a.device ≡ b.device
+  pub link : a.link_cut ≡ b.link_cut
+  pub root : a.root_mode ≡ b.root_mode
+
+-- under the number of a file Linux keeps the facts that are foreseen, or, if none are, its own
+abbrev pub IsKeptAs : Known → Option Known → Option Known → Type 0
+IsKeptAs own kept foreseen = (kept ≡ foreseen) ⊎ ((foreseen ≡ None) × (kept ≡ Some own))
 
 -- the lesser of what was found and a warning with a greater number, if it occurs
 abbrev pub lesser_by : Option Misread → ℕ → ℕ → Misread

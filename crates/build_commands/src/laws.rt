@@ -1,23 +1,28 @@
 //! Laws about what is printed and foreseen.
 ghost use Rattle.std.specs.List.{Contains};
 ghost use Rattle.std.specs.List.Sorted.{IsPermutation};
-ghost use Rattle.std.specs.Prelude.{ℕ, ◌≡◌, ◌≢◌, Bool, IsSomeAnd, List, None, Ok, Option, Some, []};
-ghost use Rattle.std.specs.Prelude.{false, length};
+ghost use Rattle.std.specs.Prelude.{ℕ, ◌≡◌, ◌≢◌, ◌+◌, ◌*◌, ◌/◌, Bool, IsSomeAnd, List, None, Ok};
+ghost use Rattle.std.specs.Prelude.{Option, Some, [], false, length};
 ghost use Rattle.build_commands.specs.Contents.{HasItsContents, HaveOneKind};
-ghost use Rattle.build_commands.specs.Foreseen.{AreMisreadAlike, IsFileOf};
+ghost use Rattle.build_commands.specs.Foreseen.{AreCramfsMisreadAlike, AreMisreadAlike, IsFileOf};
+ghost use Rattle.build_commands.specs.Foreseen.{IsKeptAs};
 ghost use Rattle.build_commands.specs.Inventory.{lines_found, path_of};
 ghost use Rattle.build_commands.specs.Nearest.{HasSmallNumbers, nearest_in};
-ghost use Rattle.build_commands.specs.Planned.{last_of, romfs_path};
+ghost use Rattle.build_commands.specs.Planned.{cramfs_path, last_of, romfs_path};
 ghost use Rattle.build_commands.specs.Reported.{AreOfOne, AreReportedAlike, kind_named};
 ghost use Rattle.build_commands.specs.Reported.{node_report, report_of};
 ghost use Rattle.build_commands.specs.Scanned.{AreTaken, Entry, lines_as, scan_text};
 ghost use Rattle.build_commands.specs.Scans.{IsScannable, all_shown};
 ghost use Rattle.build_commands.specs.declared.inventory.NamedFile.{NamedFile};
+ghost use Rattle.cramfs_format.specs.Inode.{name_room};
+ghost use Rattle.cramfs_image.specs.Reported.{order_in};
+ghost use Rattle.cramfs_image.specs.declared.image.Cramfs.{Cramfs};
 ghost use Rattle.directory_walk.specs.Trees.{AreInOrder, Name, Tree, all_below};
 ghost use Rattle.formats.specs.Format.{format_of};
 ghost use Rattle.formats.specs.declared.format.Format as code;
-ghost use Rattle.linux_misreads.specs.Misreads.{in_romfs};
-ghost use Rattle.linux_misreads.specs.Tables.{romfs_view};
+ghost use Rattle.linux_misreads.specs.Misreads.{in_cramfs, in_romfs};
+ghost use Rattle.linux_misreads.specs.Tables.{kept_in, known_of, romfs_view, view};
+ghost use Rattle.linux_misreads.specs.declared.seen.Known.{Known};
 ghost use Rattle.manifest.specs.Grammar.{manifest_of};
 ghost use Rattle.manifest.specs.Lines.{is_hard, sources_of};
 ghost use Rattle.manifest.specs.Paths.{names_of};
@@ -26,9 +31,11 @@ ghost use Rattle.manifest.specs.Printed as printed;
 ghost use Rattle.manifest.specs.declared.line.Line.{Line};
 ghost use Rattle.manifest_layout.specs.Misfit.{HasBadAttribute};
 ghost use Rattle.manifest_tree.specs.Meant.{IsMeant};
+ghost use Rattle.manifest_tree.specs.Names.{Inode};
 ghost use Rattle.manifest_tree.specs.Shape.{node_under};
 ghost use Rattle.manifest_tree.specs.Tree.{inode_of};
 ghost use Rattle.rom_tree.specs.Image.{contents_of};
+ghost use Rattle.rom_tree.specs.Names.{Name as NodeName};
 ghost use Rattle.rom_tree.specs.Tree.{IsIn, Node, ino_of, nodes};
 ghost use Rattle.rom_tree.specs.declared.types.Kind.TheVariants as kind;
 ghost use Rattle.romfs_image.specs.declared.image.Romfs.{Romfs};
@@ -134,4 +141,29 @@ pub fn romfs_names_are_foreseen()
         (romfs_path path own (inode_of lines sizes o)) }
 {
     linux_misreads::laws::romfs_device_numbers();
+}
+
+/// States that Linux misreads the last block of a file, a device, the text of a link or the mode of
+/// the root of a cramfs image exactly if it is foreseen of the path in the manifest, if the path
+/// leads to a node with the attributes, the contents and the size of the file of a line. States the
+/// same of a name, if its record has exactly the room that the name needs, and of a shared table,
+/// if Linux keeps the facts that are foreseen, or only the file's own if none are.
+pub fn cramfs_names_are_foreseen()
+    ensures file { (s : Cramfs) (ns : List NodeName) (contents : List (List ℕ))
+        (lines : List Line) (sizes path : List ℕ) (kept : Option Known) (o : Line) (x : Node)
+        → IsIn x (nodes (view s).tree)
+        → IsFileOf (view s).bytes contents x (inode_of lines sizes o)
+        → AreCramfsMisreadAlike (in_cramfs s ns (last_of path) x)
+        (cramfs_path path (inode_of lines sizes o) kept) }
+    ensures name { (s : Cramfs) (ns : List NodeName) (path : List ℕ) (i : Inode)
+        (kept : Option Known) (x : Node)
+        → name_room (order_in s) (view s).bytes (ino_of x) ≡ (length (last_of path) + 3) / 4 * 4
+        → (in_cramfs s ns (last_of path) x).name_padded ≡ (cramfs_path path i kept).name_padded }
+    ensures table { (s : Cramfs) (ns : List NodeName) (contents : List (List ℕ)) (path : List ℕ)
+        (i : Inode) (kept : Option Known) (x : Node) → IsFileOf (view s).bytes contents x i
+        → IsKeptAs (known_of x) (kept_in s ns x) kept
+        → (in_cramfs s ns (last_of path) x).shared_table
+        ≡ (cramfs_path path i kept).shared_table }
+{
+    linux_misreads::laws::cramfs_device_numbers();
 }

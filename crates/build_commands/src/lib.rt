@@ -20,6 +20,9 @@
 //! - `last_blocks`: exactly the lines of which it is told that their files end with a whole block.
 //! - `laws::romfs_names_are_foreseen`: a name, device or link of a romfs image is misread exactly
 //!   if it is foreseen of a line whose file it has.
+//! - `laws::cramfs_names_are_foreseen`: the same of a device, a link, the last block of a file and
+//!   the mode of the root of a cramfs image; of a name, if it has exactly the room that it needs;
+//!   and of a shared table, if Linux keeps the facts that are foreseen.
 //! - `overlay::{sort, laid_over}`: of the files of several directories, exactly the last of each
 //!   path is left, in the order of the paths. If a directory and another kind of file have one
 //!   path, one of these files is named.

@@ -3,3 +3,4 @@ pub mod Firsts
 pub mod Printed
 pub mod Alike
 pub mod Devices
+pub mod CramfsDevices

@@ -3,12 +3,14 @@ ghost use Rattle.std.specs.Prelude.{◌≡◌, ◌≢◌, ◌<◌, ◌≤◌, �
 ghost use Rattle.std.specs.Prelude.{not, true, ℕ, List, length};
 ghost use Rattle.romfs_format.specs.Record.{end_of, name_of, pad16};
 ghost use Rattle.cramfs_format.specs.Inode.{block_count, block_len};
+ghost use Rattle.cramfs_image.specs.Reported.{order_in};
+ghost use Rattle.cramfs_image.specs.declared.image.Cramfs.{Cramfs};
 ghost use Rattle.linux_misreads.specs.Readers.{device_number, names_device, old_device, listed_len};
-ghost use Rattle.linux_misreads.specs.Readers.{romfs_device};
+ghost use Rattle.linux_misreads.specs.Readers.{cramfs_device, romfs_device};
 ghost use Rattle.linux_misreads.specs.Readers.{romfs_data, romfs_finds, romfs_root, page_filled};
 ghost use Rattle.linux_misreads.specs.Differences.{ends_with_a_block, is_cut_name};
 ghost use Rattle.linux_misreads.specs.Seen.{is_regular_kind};
-ghost use Rattle.linux_misreads.specs.Tables.{romfs_view};
+ghost use Rattle.linux_misreads.specs.Tables.{romfs_view, view};
 ghost use Rattle.linux_misreads.specs.declared.seen.Seen.{Seen};
 ghost use Rattle.rom_tree.specs.Tree.{IsIn, Node, attributes_of, ino_of, is_device, nodes};
 ghost use Rattle.romfs_image.specs.declared.image.Romfs.{Romfs};
@@ -62,4 +64,12 @@ pub fn romfs_device_numbers()
     ensures { (s : Romfs) (x : Node) → IsIn x (nodes (romfs_view s).tree) → is_device x ≡ true
         → romfs_device (romfs_view s).bytes (ino_of x)
         ≡ device_number (attributes_of x).major (attributes_of x).minor }
+{}
+
+/// States that Linux makes of a device of a cramfs image the number of the lower eight bits of the
+/// major and of the minor number that the tree has for it.
+pub fn cramfs_device_numbers()
+    ensures { (s : Cramfs) (x : Node) → IsIn x (nodes (view s).tree) → is_device x ≡ true
+        → cramfs_device (order_in s) (view s).bytes (ino_of x)
+        ≡ old_device ((attributes_of x).major % 256 * 256 + (attributes_of x).minor % 256) }
 {}

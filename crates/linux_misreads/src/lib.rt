@@ -22,6 +22,8 @@
 //!   romfs, and from 256 on in cramfs.
 //! - `laws::romfs_device_numbers`: the record of a device of romfs has the numbers that the tree
 //!   has.
+//! - `laws::cramfs_device_numbers`: of a device of cramfs, Linux reads the lower eight bits of each
+//!   of the two numbers that the tree has.
 #![tactic(auto)]
 
 mod by_format;
