@@ -77,8 +77,8 @@ find_every P test (x ∷ xs) g h e = by (find_every P test xs g h.1) (test x) re
     by rest true i e = (subst P (some_same x g e) h.0, ap test (sym (some_same x g e)) ∙ i)
     by rest false i e = rest e
 
-link_every : (P : NamedFile → Type 0) (f g : NamedFile) (xs : List NamedFile) → Every P xs → first_link f xs ≡ Some g
-    → P g × AreOfOne f g
+pub link_every : (P : NamedFile → Type 0) (f g : NamedFile) (xs : List NamedFile) → Every P xs
+    → first_link f xs ≡ Some g → P g × AreOfOne f g
 link_every P f g xs h e = by f.has_links refl
   where
     by : (b : Bool) → f.has_links ≡ b → P g × AreOfOne f g
@@ -111,6 +111,57 @@ first_is f b a v h e k = by f.has_links refl v e
         ∙ find_next (of_file f) b a f (sym (links_is f b i) ∙ e) (own_test f i)))
     by true i (Some g) e = some_same h g (sym k ∙ (links_is f (b ++ f ∷ a) i
         ∙ find_front (of_file f) b (f ∷ a) g (sym (links_is f b i) ∙ e)))
+
+-- what holds of the first name of f, given the one before f, holds of its first name among all files
+pub first_among : (P : NamedFile → Type 0) (found b a : List NamedFile) (f : NamedFile) (v : Option NamedFile)
+    → found ≡ b ++ f ∷ a → first_link f b ≡ v → P (unwrap_or v f)
+    → (h : NamedFile) → first_link f found ≡ Some h → P h
+first_among P found b a f v is e l h k = subst P (sym (first_is f b a v h e (ap (first_link f) (sym is) ∙ k))) l
+
+-- two names of one file have the line of its first name
+pub one_line : (F : NamedFile → Option Line) (found : List NamedFile) (f g : NamedFile) (x y : Line)
+    → Contains found f → AreOfOne f g → ((h : NamedFile) → first_link f found ≡ Some h → F h ≡ Some x)
+    → ((h : NamedFile) → first_link g found ≡ Some h → F h ≡ Some y) → x ≡ y
+one_line F found f g x y c o hx hy =
+    let at = split_at found f c in
+    let first = first_there f at.before at.after o.links in
+    let e : first_link f found ≡ Some first.0 =
+    links_is f found o.links ∙ (ap (find (of_file f)) at.is ∙ first.1) in
+    some_same x y (sym (hx first.0 e) ∙ hy first.0 (sym (link_alike f g found o) ∙ e))
+
+-- ---- one induction along the files
+
+-- What holds of each file once its line was accepted, and still holds behind each line, holds of all files.
+module _ (o : Option Format) (found : List NamedFile) (G : List Line → NamedFile → Type 0)
+    (still : (latest : List Line) (n : ℕ) (l : Line) → fault_of latest (numbered n l) ≡ None
+    → (f : NamedFile) → G latest f → G (numbered n l ∷ latest) f)
+    (next : (b : List NamedFile) (f : NamedFile) (a : List NamedFile) (latest : List Line) (n : ℕ)
+    → found ≡ b ++ f ∷ a → Every (G latest) b → Contains found f
+    → fault_of latest (numbered n (name_line o (first_link f b) f)) ≡ None
+    → G (numbered n (name_line o (first_link f b) f) ∷ latest) f) where
+  pub all_kept : (b a : List NamedFile) (latest : List Line) (n : ℕ) → found ≡ b ++ a → Every (G latest) b
+      → Every (Contains found) a → AreTaken latest n (lines_behind o b a)
+      → Every (G (taken_after latest n (lines_behind o b a))) (b ++ a)
+  all_kept b [] latest n is h c t = subst (Every (G latest)) (sym (append-nil b)) h
+  all_kept b (f ∷ a) latest n is h c t =
+      let l : Line = name_line o (first_link f b) f in
+      let more = every_join (G (numbered n l ∷ latest)) b (f ∷ [])
+      (every_weaker (G latest) _ (still latest n l t.1) b h)
+      (next b f a latest n is h c.0 t.1, tt) in
+      let e = append_assoc b (f ∷ []) a in
+      subst (Every (G (taken_after latest n (lines_behind o b (f ∷ a))))) e
+      (all_kept (b ++ f ∷ []) a (numbered n l ∷ latest) (n + 1) (is ∙ sym e) more c.1 t.2)
+
+pub members : (b a : List NamedFile) → Every (Contains (b ++ a)) a
+members b [] = tt
+members b (f ∷ a) = (
+  contains_at b f a,
+  subst (λ (v : List NamedFile). Every (Contains v) a) (append_assoc b (f ∷ []) a) (members (b ++ f ∷ []) a),
+)
+
+pub every_at : (P : NamedFile → Type 0) (xs : List NamedFile) (f : NamedFile) → Every P xs → Contains xs f → P f
+every_at P xs f h c =
+    let s = split_at xs f c in (every_right P s.before (f ∷ s.after) (subst (Every P) s.is h)).0
 
 -- ---- the contents of all files
 
@@ -150,13 +201,6 @@ module _ (found : List NamedFile) (kinds : HaveOneKind found) (o : Option Format
       → IsGood found (numbered n (name_line o (first_link f b) f) ∷ latest) f
   next_good b f a latest n is every c fault = (c, λ r. by r (first_link f b) refl fault)
     where
-      first_at : (v : Option NamedFile) (latest : List Line) (x : Line) → first_link f b ≡ v
-          → filed latest (path_of (unwrap_or v f)) ≡ Some x
-          → (h : NamedFile) → first_link f found ≡ Some h → filed latest (path_of h) ≡ Some x
-      first_at v latest x e l h k =
-          subst (λ (g : NamedFile). filed latest (path_of g) ≡ Some x)
-          (sym (first_is f b a v h e (ap (first_link f) (sym is) ∙ k))) l
-
       by : kind_named f.kind ≡ node_kind.Regular → (v : Option NamedFile) → first_link f b ≡ v
           → fault_of latest (numbered n (name_line o v f)) ≡ None
           → IsSourced found (numbered n (name_line o v f) ∷ latest) f
@@ -169,7 +213,7 @@ module _ (found : List NamedFile) (kinds : HaveOneKind found) (o : Option Format
             one = inl refl;
             has = l.0;
             text = l.1;
-            first = first_at None (numbered n (name_line o None f) ∷ latest) (numbered n (name_line o None f)) e l.0;
+            first = first_among _ found b a f None is e l.0;
           }
       by r (Some g) e fault =
           let s = link_every (IsGood found latest) f g b every e in
@@ -181,33 +225,9 @@ module _ (found : List NamedFile) (kinds : HaveOneKind found) (o : Option Format
             one = inr (one_joined f g t.file s.1 t.one);
             has = further_filed f n latest r o g ∙ t.has;
             text = t.text;
-            first = first_at (Some g) (numbered n (name_line o (Some g) f) ∷ latest) t.line e
+            first = first_among _ found b a f (Some g) is e
                 (filed_kept latest n (name_line o (Some g) f) (path_of g) t.line fault t.has);
           }
-
-  all_good : (b a : List NamedFile) (latest : List Line) (n : ℕ) → found ≡ b ++ a → Every (IsGood found latest) b
-      → Every (Contains found) a → AreTaken latest n (lines_behind o b a)
-      → Every (IsGood found (taken_after latest n (lines_behind o b a))) (b ++ a)
-  all_good b [] latest n is h c t = subst (Every (IsGood found latest)) (sym (append-nil b)) h
-  all_good b (f ∷ a) latest n is h c t =
-      let l : Line = name_line o (first_link f b) f in
-      let more = every_join (IsGood found (numbered n l ∷ latest)) b (f ∷ [])
-      (every_weaker (IsGood found latest) _ (still_good found latest n l t.1) b h)
-      (next_good b f a latest n is h c.0 t.1, tt) in
-      let e = append_assoc b (f ∷ []) a in
-      subst (Every (IsGood found (taken_after latest n (lines_behind o b (f ∷ a))))) e
-      (all_good (b ++ f ∷ []) a (numbered n l ∷ latest) (n + 1) (is ∙ sym e) more c.1 t.2)
-
-members : (b a : List NamedFile) → Every (Contains (b ++ a)) a
-members b [] = tt
-members b (f ∷ a) = (
-  contains_at b f a,
-  subst (λ (v : List NamedFile). Every (Contains v) a) (append_assoc b (f ∷ []) a) (members (b ++ f ∷ []) a),
-)
-
-every_at : (P : NamedFile → Type 0) (xs : List NamedFile) (f : NamedFile) → Every P xs → Contains xs f → P f
-every_at P xs f h c =
-    let s = split_at xs f c in (every_right P s.before (f ∷ s.after) (subst (Every P) s.is h)).0
 
 module _ (format : Option Format) (found : List NamedFile) (volume image : List ℕ) (t : Node)
     (contents : List (List ℕ)) (sizes : List ℕ) (taken : AreTaken [] (first_number volume) (lines_found format found))
@@ -221,7 +241,8 @@ module _ (format : Option Format) (found : List NamedFile) (volume image : List 
 
   sourced : (f : NamedFile) → Contains found f → kind_named f.kind ≡ node_kind.Regular → IsSourced found latest f
   sourced f c = (every_at (IsGood found latest) found f
-      (all_good found kinds format [] found [] (first_number volume) refl tt (members [] found) taken) c).1
+      (all_kept format found (IsGood found) (still_good found) (next_good found kinds format)
+      [] found [] (first_number volume) refl tt (members [] found) taken) c).1
 
   -- a node has the contents of the line x
   record HasNode (o : Option Node) (x : Line) : Type 0 where
@@ -269,12 +290,7 @@ module _ (format : Option Format) (found : List NamedFile) (volume image : List 
   contents_shared f g p q x y cf cg o r ep eq ex ey =
       let s = sourced f cf r in
       let u = sourced g cg (sym (kinds f g cf cg o) ∙ r) in
-      let at = split_at found f cf in
-      let first = first_there f at.before at.after o.links in
-      let for_f : first_link f found ≡ Some first.0 =
-      links_is f found o.links ∙ (ap (find (of_file f)) at.is ∙ first.1) in
-      let line : s.line ≡ u.line =
-      some_same s.line u.line (sym (s.first first.0 for_f) ∙ u.first first.0 (sym (link_alike f g found o) ∙ for_f)) in
+      let line : s.line ≡ u.line = one_line (λ h. filed latest (path_of h)) found f g _ _ cf o s.first u.first in
       let v = has_node f p s.line ep s.has in
       let w = has_node g q u.line eq u.has in
       ap (contents_of image) (some_same x v.node (sym ex ∙ v.is))

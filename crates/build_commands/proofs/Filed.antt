@@ -129,7 +129,7 @@ taken_has P latest n (l ∷ ls) h = by (taken_has P (numbered n l ∷ latest) (n
     by (inl (inr k)) = inl k
     by (inr k) = inr (inr k)
 
-all_has : (P : Line → Type 0) (n : ℕ) (ls : List Line) → Has P (taken_after [] n ls) → Has P (numbered_from n ls)
+pub all_has : (P : Line → Type 0) (n : ℕ) (ls : List Line) → Has P (taken_after [] n ls) → Has P (numbered_from n ls)
 all_has P n ls h = elim (taken_has P [] n ls h) [ inl k ↦ absurd k | inr k ↦ k ]
 
 -- The names of a path with the contents of the line x lead to a regular file with these contents.

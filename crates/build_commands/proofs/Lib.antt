@@ -8,6 +8,8 @@ mod Meant
 mod Reported
 mod Filed
 mod Contained
+mod Reached
+mod Packed
 mod Apart
 mod Fitting
 mod ScanFound

@@ -1,37 +1,26 @@
--- The nodes of a tree that the lines of found files mean.
-use Rattle.std.proofs.Common.{◌≡◌, ◌≢◌, ℕ, ◌+◌, Bool, true, false, ◌&&◌, cond, List, [], ◌∷◌, ◌++◌}
-use Rattle.std.proofs.Common.{reverse, Option, None, Some, refl, sym, ap, subst, ◌∙◌, ◌⊎◌, inl, inr}
+-- What a node has of a value, and the file to which the names of a path lead.
+use Rattle.std.proofs.Common.{◌≡◌, ℕ, Bool, true, false, ◌&&◌, cond, List, [], ◌∷◌}
+use Rattle.std.proofs.Common.{Option, None, Some, refl, sym, ap, ◌∙◌, ◌⊎◌, inl, inr}
 use Rattle.std.proofs.lemmas.Bool.{eqb-true}
-use Rattle.std.specs.Prelude.{◌==◌, find, IsSomeAnd, if◌then◌else◌}
+use Rattle.std.specs.Prelude.{◌==◌, find, if◌then◌else◌}
 use Rattle.std.specs.Cmp.Lexicographic.{bytes_decides}
-use Rattle.std.specs.List.{Contains, list_any}
-use Rattle.std.specs.Option.{option_map, option_and_then}
+use Rattle.std.specs.List.{list_any}
+use Rattle.std.specs.Option.{option_and_then}
 use Rattle.std.specs.Str.{bytes_eq}
 use Rattle.record_forest.specs.Members.{Has}
-use Rattle.rom_tree.specs.Tree.{Node, node, directory, regular, symlink, block, character, socket, fifo, ino_of}
+use Rattle.rom_tree.specs.Tree.{Node, node, directory, regular, symlink, block, character, socket, fifo}
 use Rattle.rom_tree.specs.declared.types.Kind.{Kind}
 use Rattle.rom_tree.specs.declared.types.Kind.TheVariants as node_kind
 use Rattle.manifest.specs.declared.line.Line.{Line}
-use Rattle.manifest.specs.Lines.{filed, is_dir, led}
 use Rattle.manifest.specs.Paths.{is_bad_name, names_behind, names_from, names_of}
-use Rattle.manifest.specs.Printed.{AreTaken, as_read, first_number, numbered, numbered_from}
 use Rattle.manifest.specs.Texts.{is_bad, pieces}
 use Rattle.manifest.proofs.Named.{path_with_names}
 use Rattle.manifest.proofs.Parents.{pieces_some}
-use Rattle.manifest_tree.specs.Meant.{IsMeant}
 use Rattle.manifest_tree.specs.Names.{Inode}
-use Rattle.manifest_tree.specs.Shape.{Value, file_value, node_under, node_value}
-use Rattle.manifest_tree.specs.Tree.{bare_root, file_at, file_named, inode_of, is_named, names_eq, or_else, root_of}
-use Rattle.manifest_tree.specs.Tree.{with_contents}
-use Rattle.build_commands.specs.Inventory.{first_link, found_line, line_by, lines_behind, lines_found, path_of}
-use Rattle.build_commands.specs.Inventory.{name_line, plain_line}
-use Rattle.build_commands.specs.Reported.{AreOfOne, AreReportedAlike, Report, kind_named, major_of}
-use Rattle.build_commands.specs.Reported.{minor_of, node_report}
-use Rattle.build_commands.specs.Reported.{report_of, target_of}
-use Rattle.build_commands.specs.declared.inventory.FileKind.{FileKind}
-use Rattle.build_commands.specs.declared.inventory.FileKind.TheVariants as kind
-use Rattle.build_commands.specs.declared.inventory.NamedFile.{NamedFile}
-use Rattle.build_commands.proofs.Meant.{all_reversed, all_taken, is_led, led_alike, lines_apart, name_path, split_at}
+use Rattle.manifest_tree.specs.Shape.{Value, node_value}
+use Rattle.manifest_tree.specs.Tree.{bare_root, file_at, file_named, is_named, names_eq, or_else, root_of}
+use Rattle.build_commands.specs.Reported.{Report}
+use Rattle.build_commands.specs.Reported.{node_report}
 
 -- ---- reports
 
@@ -39,7 +28,7 @@ abbrev is_symlink : Kind → Bool
 is_symlink node_kind.Symlink = true
 is_symlink _ = false
 
-abbrev value_report : Value → Report
+abbrev pub value_report : Value → Report
 value_report v = record {
   kind = v.kind;
   mode = v.mode;
@@ -50,7 +39,7 @@ value_report v = record {
   target = if is_symlink v.kind then v.bytes else [];
 }
 
-of_node : (image : List ℕ) (x : Node) → node_report image x ≡ value_report (node_value image x)
+pub of_node : (image : List ℕ) (x : Node) → node_report image x ≡ value_report (node_value image x)
 unfolding node_value
 of_node image (node a (directory es)) = refl
 of_node image (node a (regular ps)) = refl
@@ -59,38 +48,6 @@ of_node image (node a block) = refl
 of_node image (node a character) = refl
 of_node image (node a socket) = refl
 of_node image (node a fifo) = refl
-
-module _ (contents : List (List ℕ)) (all : List Line) (sizes : List ℕ) (k : ℕ) (f : NamedFile) where
-  of_contents : (o : Option Line)
-      → value_report
-      (file_value contents (with_contents all sizes (numbered k (line_by kind.Regular f (plain_line f))) o))
-      ≡ record { kind = node_kind.Regular; mode = f.mode; uid = f.uid; gid = f.gid; major = 0; minor = 0; target = [] }
-  unfolding file_value
-  of_contents None = refl
-  of_contents (Some l) = refl
-
-  by_kind : (d : FileKind)
-      → value_report (file_value contents (inode_of all sizes (numbered k (line_by d f (plain_line f)))))
-      ≡ record {
-        kind = kind_named d;
-        mode = f.mode;
-        uid = f.uid;
-        gid = f.gid;
-        major = major_of d;
-        minor = minor_of d;
-        target = target_of d;
-      }
-  unfolding file_value inode_of
-  by_kind kind.Directory = refl
-  by_kind kind.Regular = of_contents (filed (reverse all) (path_of f))
-  by_kind (kind.Symlink t) = refl
-  by_kind (kind.Block d) = refl
-  by_kind (kind.Character d) = refl
-  by_kind kind.Fifo = refl
-  by_kind kind.Socket = refl
-
-  of_file : value_report (file_value contents (inode_of all sizes (numbered k (found_line f)))) ≡ report_of f
-  of_file = by_kind f.kind
 
 -- ---- names lead to the file at a path
 
@@ -199,91 +156,3 @@ named_at all sizes p [] i e h f =
 named_at all sizes p (n ∷ ns) i e h f =
     let s = find_named p n ns all e h in
     ap (option_and_then (λ (l : Line). file_at all sizes l.path)) s.is ∙ (ap (file_at all sizes) s.path ∙ f)
-
--- ---- the lines of files
-
-has_path : (n : ℕ) (p : List ℕ) (xs : List Line) (l : Line) (ys : List Line) → l.path ≡ p
-    → HasPath p (numbered_from n (xs ++ l ∷ ys))
-has_path n p [] l ys e = inl e
-has_path n p (x ∷ xs) l ys e = inr (has_path (n + 1) p xs l ys e)
-
-module _ (j : ℕ) (found : List NamedFile) (t : AreTaken [] j (lines_found None found)) (sizes : List ℕ) where
-  abbrev all : List Line
-  all = numbered_from j (lines_found None found)
-
-  path_there : (f : NamedFile) → Contains found f → HasPath (path_of f) (numbered_from j (lines_found None found))
-  path_there f c =
-      let s = split_at found f c in
-      let e : lines_found None found ≡ lines_found None s.before
-      ++ name_line None (first_link f s.before) f ∷ lines_behind None (s.before ++ f ∷ []) s.after =
-      ap (lines_found None) s.is ∙ lines_apart [] s.before f s.after in
-      subst (λ (v : List Line). HasPath (path_of f) (numbered_from j v)) (sym e)
-      (has_path j (path_of f) (lines_found None s.before) (name_line None (first_link f s.before) f) _
-      (name_path (first_link f s.before) f))
-
-  at_path : (p : List ℕ) → file_at (numbered_from j (lines_found None found)) sizes p
-      ≡ option_map (inode_of (numbered_from j (lines_found None found)) sizes) (led (all_taken j found) p)
-  unfolding file_at
-  at_path p = ap (λ (v : List Line). option_map (inode_of (numbered_from j (lines_found None found)) sizes) (led v p))
-      (sym (all_reversed j (lines_found None found)))
-
-  -- the names of a file that was found lead to the file of its line
-  named_file : (f : NamedFile) (q : List (List ℕ)) (l : Line) → Contains found f → names_of (path_of f) ≡ Some q
-      → led (all_taken j found) (path_of f) ≡ Some l
-      → file_named (numbered_from j (lines_found None found)) sizes q
-      ≡ Some (inode_of (numbered_from j (lines_found None found)) sizes l)
-  named_file f q l c e h = named_at (numbered_from j (lines_found None found)) sizes (path_of f) q _ e (path_there f c)
-      (at_path (path_of f)
-      ∙ ap (option_map (inode_of (numbered_from j (lines_found None found)) sizes)) h)
-
-report_by : (found : List NamedFile) (f g : NamedFile) → AreReportedAlike found → Contains found f → Contains found g
-    → (g ≡ f) ⊎ AreOfOne f g → report_of g ≡ report_of f
-report_by found f g alike cf cg (inl e) = ap report_of e
-report_by found f g alike cf cg (inr o) = sym (alike f g cf cg o)
-
-pub reported : (found : List NamedFile) (volume image : List ℕ) (t : Node) (contents : List (List ℕ)) (sizes : List ℕ)
-    → AreTaken [] (first_number volume) (lines_found None found)
-    → IsMeant image t contents (as_read volume (lines_found None found)) sizes → AreReportedAlike found
-    → (f : NamedFile) (q : List (List ℕ)) → Contains found f → names_of (path_of f) ≡ Some q
-    → IsSomeAnd (node_under q t) (λ x. node_report image x ≡ report_of f)
-reported found volume image t contents sizes taken meant alike f q c e =
-    let j = first_number volume in
-    let d = is_led j found f taken c in
-    let here = named_file j found taken sizes f q (numbered d.number (found_line d.file)) c e d.led in
-    let value = meant.values q ∙ ap (option_map (file_value contents)) here in
-    by (node_under q t) value
-    (of_file contents (numbered_from j (lines_found None found)) sizes d.number d.file
-    ∙ report_by found f d.file alike c d.among d.one)
-  where
-    by : {v : Value} (o : Option Node) → option_map (node_value image) o ≡ Some v → value_report v ≡ report_of f
-        → IsSomeAnd o (λ x. node_report image x ≡ report_of f)
-    by {v} None h r = absurd (none_some v h)
-    by {v} (Some x) h r = of_node image x ∙ (ap value_report (some_same (node_value image x) v h) ∙ r)
-
-no_directory : (f : NamedFile) → kind_named f.kind ≢ node_kind.Directory → is_dir (found_line f).word ≡ false
-no_directory f n = by f.kind n
-  where
-    by : (k : FileKind) → kind_named k ≢ node_kind.Directory → is_dir (line_by k f (plain_line f)).word ≡ false
-    by kind.Directory n = absurd (n refl)
-    by kind.Regular n = refl
-    by (kind.Symlink t) n = refl
-    by (kind.Block d) n = refl
-    by (kind.Character d) n = refl
-    by kind.Fifo n = refl
-    by kind.Socket n = refl
-
-pub shared : (found : List NamedFile) (volume image : List ℕ) (t : Node) (contents : List (List ℕ)) (sizes : List ℕ)
-    → AreTaken [] (first_number volume) (lines_found None found)
-    → IsMeant image t contents (as_read volume (lines_found None found)) sizes
-    → (f g : NamedFile) (p q : List (List ℕ)) (x y : Node) → Contains found f → Contains found g → AreOfOne f g
-    → kind_named f.kind ≢ node_kind.Directory → kind_named g.kind ≢ node_kind.Directory
-    → names_of (path_of f) ≡ Some p → names_of (path_of g) ≡ Some q → node_under p t ≡ Some x → node_under q t ≡ Some y
-    → ino_of x ≡ ino_of y
-shared found volume image t contents sizes taken meant f g p q x y cf cg o nf ng ep eq ex ey =
-    let j = first_number volume in
-    let d = is_led j found f taken cf in
-    let l : Line = numbered d.number (found_line d.file) in
-    let one = named_file j found taken sizes f p l cf ep d.led in
-    let two = named_file j found taken sizes g q l cg eq
-    (sym (led_alike j found f g taken cf cg o (no_directory f nf) (no_directory g ng)) ∙ d.led) in
-    (meant.shared p q x y _ _ ex ey one two).1 refl

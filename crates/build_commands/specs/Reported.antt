@@ -1,10 +1,17 @@
--- What the system reports of a file, and what a tree has of it. (This project's own.)
-use Rattle.std.specs.Prelude.{◌≡◌, ℕ, true, List, [], string_bytes, if◌then◌else◌}
+-- What the system reports of a file, the nearest that a format can hold of it, and what a tree has
+-- of it. (This project's own.)
+use Rattle.std.specs.Prelude.{◌≡◌, ℕ, min, true, List, [], Option, Some, None, string_bytes}
+use Rattle.std.specs.Prelude.{if◌then◌else◌}
 use Rattle.std.specs.List.{Contains}
+use Rattle.formats.specs.declared.format.Format.{Format}
+use Rattle.formats.specs.declared.format.Format.TheVariants.{Romfs, Cramfs, CramfsBig}
+use Rattle.manifest.specs.declared.line.Word.{Word}
+use Rattle.manifest.specs.declared.line.Word.TheVariants as word
 use Rattle.rom_tree.specs.Image.{contents_of}
 use Rattle.rom_tree.specs.Tree.{Node, attributes_of, is_link, kind_of}
 use Rattle.rom_tree.specs.declared.types.Kind.{Kind}
 use Rattle.rom_tree.specs.declared.types.Kind.TheVariants as node_kind
+use Rattle.build_commands.specs.Nearest.{romfs_mode}
 use Rattle.build_commands.specs.declared.inventory.FileKind.{FileKind}
 use Rattle.build_commands.specs.declared.inventory.FileKind.TheVariants as kind
 use Rattle.build_commands.specs.declared.inventory.NamedFile.{NamedFile}
@@ -54,6 +61,26 @@ report_of f = record {
   minor = minor_of f.kind;
   target = target_of f.kind;
 }
+
+-- the word of a line that makes a file of some kind
+abbrev pub word_for : Kind → Word
+word_for node_kind.Directory = word.Dir
+word_for node_kind.Regular = word.File
+word_for node_kind.Symlink = word.Slink
+word_for node_kind.Block = word.Block
+word_for node_kind.Character = word.Character
+word_for node_kind.Fifo = word.Fifo
+word_for node_kind.Socket = word.Socket
+
+-- The nearest that a format can hold of a report, if a format was chosen. romfs has no owners, and
+-- one mode for each kind, except that it keeps whether a directory or a regular file may be
+-- executed. cramfs has 16 bits for the owner and 8 for the group. Nothing else changes.
+abbrev pub fitted_report : Option Format → Report → Report
+fitted_report None r = r
+fitted_report (Some Romfs) r =
+    record r { mode = romfs_mode (word_for r.kind) r.mode; uid = 0; gid = 0 }
+fitted_report (Some Cramfs) r = record r { uid = min r.uid 65535; gid = min r.gid 255 }
+fitted_report (Some CramfsBig) r = record r { uid = min r.uid 65535; gid = min r.gid 255 }
 
 -- what the tree of an image with these bytes has of a node
 abbrev pub node_report : List ℕ → Node → Report

@@ -1,16 +1,16 @@
 //! Laws about what is printed and foreseen.
 ghost use Rattle.std.specs.List.{Contains};
 ghost use Rattle.std.specs.List.Sorted.{IsPermutation};
-ghost use Rattle.std.specs.Prelude.{ℕ, ◌≡◌, ◌≢◌, ◌+◌, ◌*◌, ◌/◌, Bool, IsSomeAnd, List, None, Ok};
-ghost use Rattle.std.specs.Prelude.{Option, Some, [], false, length};
+ghost use Rattle.std.specs.Prelude.{ℕ, ◌≡◌, ◌≢◌, ◌+◌, ◌*◌, ◌/◌, Bool, IsSomeAnd, List, Ok, Option};
+ghost use Rattle.std.specs.Prelude.{Some, [], false, length, true};
 ghost use Rattle.build_commands.specs.Contents.{HasItsContents, HaveOneKind};
 ghost use Rattle.build_commands.specs.Foreseen.{AreCramfsMisreadAlike, AreMisreadAlike, IsFileOf};
 ghost use Rattle.build_commands.specs.Foreseen.{IsKeptAs};
-ghost use Rattle.build_commands.specs.Inventory.{lines_found, path_of};
+ghost use Rattle.build_commands.specs.Inventory.{has_hard_links, lines_found, path_of};
 ghost use Rattle.build_commands.specs.Nearest.{HasSmallNumbers, nearest_in};
 ghost use Rattle.build_commands.specs.Planned.{cramfs_path, last_of, romfs_path};
 ghost use Rattle.build_commands.specs.Reported.{AreOfOne, AreReportedAlike, kind_named};
-ghost use Rattle.build_commands.specs.Reported.{node_report, report_of};
+ghost use Rattle.build_commands.specs.Reported.{fitted_report, node_report, report_of};
 ghost use Rattle.build_commands.specs.Scanned.{AreTaken, Entry, lines_as, scan_text};
 ghost use Rattle.build_commands.specs.Scans.{IsScannable, all_shown};
 ghost use Rattle.build_commands.specs.declared.inventory.NamedFile.{NamedFile};
@@ -24,7 +24,7 @@ ghost use Rattle.linux_misreads.specs.Misreads.{in_cramfs, in_romfs};
 ghost use Rattle.linux_misreads.specs.Tables.{kept_in, known_of, romfs_view, view};
 ghost use Rattle.linux_misreads.specs.declared.seen.Known.{Known};
 ghost use Rattle.manifest.specs.Grammar.{manifest_of};
-ghost use Rattle.manifest.specs.Lines.{is_hard, sources_of};
+ghost use Rattle.manifest.specs.Lines.{ManifestLines, is_hard, sources_of};
 ghost use Rattle.manifest.specs.Paths.{names_of};
 ghost use Rattle.manifest.specs.Printed.{IsVolume, as_read, first_number, manifest_text};
 ghost use Rattle.manifest.specs.Printed as printed;
@@ -63,22 +63,25 @@ pub fn nearest_fits()
         → HasBadAttribute (format_of f) (inode_of lines sizes (nearest_in f l)) → ⊥ }
 {}
 
-/// States what the tree has that the manifest of a directory as it is means, if no format was
+/// States what the tree has that the manifest of a directory as it is means, whatever format was
 /// chosen, if the grammar accepts each line, and if the system reports the same of a file by each
-/// of its names: each path that was found has a node with what was reported of it, and two names of
-/// one file that is no directory have one node.
+/// of its names: each path that was found has a node with the nearest that the format can hold of
+/// what was reported of it, or exactly that, if no format was chosen. Unless the format is cramfs,
+/// two names of one file that is no directory have one node.
 pub fn found_files_are_meant()
-    ensures reported { (found : List NamedFile) (volume image : List ℕ) (t : Node)
-        (contents : List (List ℕ)) (sizes : List ℕ)
-        → printed.AreTaken [] (first_number volume) (lines_found None found)
-        → IsMeant image t contents (as_read volume (lines_found None found)) sizes
+    ensures reported { (format : Option code.Format) (found : List NamedFile)
+        (volume image : List ℕ) (t : Node) (contents : List (List ℕ)) (sizes : List ℕ)
+        → printed.AreTaken [] (first_number volume) (lines_found format found)
+        → IsMeant image t contents (as_read volume (lines_found format found)) sizes
         → AreReportedAlike found
         → (f : NamedFile) (q : List (List ℕ)) → Contains found f → names_of (path_of f) ≡ Some q
-        → IsSomeAnd (node_under q t) (λ x. node_report image x ≡ report_of f) }
-    ensures shared { (found : List NamedFile) (volume image : List ℕ) (t : Node)
-        (contents : List (List ℕ)) (sizes : List ℕ)
-        → printed.AreTaken [] (first_number volume) (lines_found None found)
-        → IsMeant image t contents (as_read volume (lines_found None found)) sizes
+        → IsSomeAnd (node_under q t)
+        (λ x. node_report image x ≡ fitted_report format (report_of f)) }
+    ensures shared { (format : Option code.Format) (found : List NamedFile)
+        (volume image : List ℕ) (t : Node) (contents : List (List ℕ)) (sizes : List ℕ)
+        → has_hard_links format ≡ true
+        → printed.AreTaken [] (first_number volume) (lines_found format found)
+        → IsMeant image t contents (as_read volume (lines_found format found)) sizes
         → (f g : NamedFile) (p q : List (List ℕ)) (x y : Node)
         → Contains found f → Contains found g → AreOfOne f g
         → kind_named f.kind ≢ kind.Directory → kind_named g.kind ≢ kind.Directory
@@ -113,6 +116,29 @@ pub fn found_files_have_their_contents()
         → node_under p t ≡ Some x → node_under q t ≡ Some y
         → contents_of image x ≡ contents_of image y }
 {}
+
+/// States both of the text that is printed of a directory as it is, whatever format was chosen, if
+/// the grammar accepts each line, and if the system reports the same of a file by each of its
+/// names. In each tree that this text means as a manifest, each path that was found has a node with
+/// the nearest that the format can hold of what was reported of it; if it is a regular file, it has
+/// the contents of a source whose name is the place by which it, or another name of the same file,
+/// was found.
+pub fn packed_files_are_found()
+    ensures { (format : Option code.Format) (found : List NamedFile)
+        (volume image : List ℕ) (t : Node) (contents : List (List ℕ)) (m : ManifestLines)
+        (sizes : List ℕ) → IsVolume volume
+        → printed.AreTaken [] (first_number volume) (lines_found format found)
+        → manifest_of (manifest_text volume (lines_found format found)) ≡ Ok m
+        → IsMeant image t contents m sizes
+        → AreReportedAlike found
+        → (f : NamedFile) (q : List (List ℕ)) → Contains found f → names_of (path_of f) ≡ Some q
+        → IsSomeAnd (node_under q t) (λ x.
+        (node_report image x ≡ fitted_report format (report_of f))
+        × (kind_named f.kind ≡ kind.Regular
+        → HasItsContents image found (sources_of m.lines) contents f x)) }
+{
+    scans_are_manifests();
+}
 
 /// States that a scan prints the manifest of a tree. Take the entries of a directory as a walk
 /// finds them: all that are below it, each once, in the order of the bytes of their paths. Their

@@ -84,15 +84,20 @@
 //!   line and its device numbers fit.
 //! - `laws::scans_are_manifests`: if the grammar accepts each line of a scan after the lines before
 //!   it, the output is a manifest with exactly these lines (both kinds).
-//! - `laws::found_files_are_meant`: if also no format was chosen, and the system reports the same
-//!   of a file by each of its names, the tree that it means has at each found path a node with the
-//!   kind, mode, owner, group, device numbers and link text that were reported; two names of one
-//!   file that is no directory have one node.
+//! - `laws::found_files_are_meant`: for each format, if the grammar accepts each line and the
+//!   system reports the same of a file by each of its names, the tree that the manifest means has
+//!   at each found path a node with the kind, device numbers and link text that were reported, and
+//!   with the mode, owner and group that were reported or, if a format was chosen, the nearest that
+//!   it can hold. Unless the format is cramfs, two names of one file that is no directory have one
+//!   node.
 //! - `laws::found_files_have_their_contents`: for each format, if the grammar accepts each line and
 //!   the system reports one kind of a file by each of its names: the path of each regular file that
 //!   was found leads to a regular file with the contents of a source that has the name by which
 //!   this file, or another name of the same file, was found; two names of one regular file have the
 //!   same contents.
+//! - `laws::packed_files_are_found`: the same of the text that is printed, for each format: in each
+//!   tree that this text means, each found path has these attributes, and each regular file these
+//!   contents.
 //! - `print_walked`: a plain scan is printed of the entries of a walk, and flushed once at an `Ok`;
 //!   if memory was refused, nothing is written.
 //! - `laws::scan_is_the_tree`: if a lister reports a tree whose names and paths a manifest accepts,
