@@ -58,6 +58,19 @@ def programs(text):
     return one_table(33_000, program.ljust(113 * BLOCK, b"\0"), size, CRAMFS_REGULAR | 0o111)
 
 
+def libraries(text):
+    """A program that needs 60,000 libraries, none of which is there."""
+    strings, count = b"\0" + text + b"\0", 60_000
+    place = (64 + 2 * 56 + len(strings) + 15) // 16 * 16
+    entries = struct.pack("<QQ", 5, 0x400000 + 64 + 2 * 56) + count * struct.pack("<QQ", 1, 1) + bytes(16)
+    size = place + len(entries)
+    program = struct.pack("<4s12BHHIQQQIHHHHHH", b"\x7fELF", 2, 1, 1, *bytes(9), 3, 62, 1, 0x400000, 64, 0, 0, 64, 56, 2, 64, 0, 0)
+    program += struct.pack("<IIQQQQQQ", 1, 5, 0, 0x400000, 0x400000, size, size, 4096)
+    program += struct.pack("<IIQQQQQQ", 2, 4, place, 0x400000 + place, 0x400000 + place, len(entries), len(entries), 8)
+    blocks = ((program + strings).ljust(place, b"\0") + entries).ljust((size + BLOCK - 1) // BLOCK * BLOCK, b"\0")
+    return one_table(1, blocks, size, CRAMFS_REGULAR | 0o111)
+
+
 def one_block(text):
     """60,000 names of one table with 4,095 pointers to one block: 1 TB of contents."""
     return one_table(60_000, text.rjust(BLOCK, b"\0"), 4095 * BLOCK)
@@ -79,8 +92,8 @@ def long_paths(text):
 
 READERS = (
     "check image", "list image", "info image", "map image", "map --all image", "map --c --only none image", "which image 0x1000",
-    "linux image", "xip image", "digest image", "digest --image image", "diff image image", "diff image other", "verify image image",
-    "extract --no-sync image out none",
+    "linux image", "linux --needs image", "xip image", "digest image", "digest --image image", "diff image image", "diff image other",
+    "verify image image", "extract --no-sync image out none",
 )  # fmt: skip
 
 
@@ -178,7 +191,7 @@ def linked_files(top):
 
 # each input: its maker, which returns the names of the files whose bytes count, and the commands
 INPUTS = {
-    **{make.__name__: (image_of(make), READERS) for make in (programs, one_block)},
+    **{make.__name__: (image_of(make), READERS) for make in (programs, libraries, one_block)},
     **{make.__name__: (image_of(make), (*READERS, "extract --no-sync image all")) for make in (hard_links, long_paths)},
     "same_lines": (same_lines, ("build cramfs manifest out",)),
     "hard_lines": (hard_lines, ("build romfs manifest out",)),

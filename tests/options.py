@@ -26,12 +26,13 @@ CASES = {
     "verify": {"--offset": "digest/verify-hello", "--max-size": MOST, "--explain": "digest/verify-hello"},
     "numbers": {"--c": "test_reading.py::test_numbers[romfs]", "--max-size": MOST, "--explain": MOST},
     "cat": {"--max-size": MOST, "--explain": "map/cat-of-hello"},
-    "linux": {"--max-size": MOST, "--explain": "map/linux-of-cramfs-files"},
+    "linux": {"--needs": "test_needs.py::test_each_name", "--max-size": MOST, "--explain": "map/linux-of-cramfs-files"},
     "xip": {"--base": READING, "--no-mmu": READING, "--advice": READING, "--max-size": MOST, "--explain": READING},
     "serve": {"--max-size": MOST, "--explain": MOST},
     "space": {"--max-size": MOST, "--explain": MOST},
     "build": {
         "--no-follow": "options/source-that-is-a-link", "--strict": "build/strict-builds", "--xip": "build/xip-in-romfs",
+        "--needs": "test_needs.py::test_refused_builds",
         "--max-size": "build/a-length-that-is-too-large", "--size": "build/partition-of-the-image",
         "--fill": "build/partition-of-the-image", "--directory": "build/manifest-on-standard-input-and-sources-in-a-directory",
         "--depfile": "build/manifest-on-standard-input-and-sources-in-a-directory", "--explain": "build/romfs-owner-refused",
@@ -39,6 +40,7 @@ CASES = {
     "pack": {
         "--align": PACK, "--owner": PACK, "--all-root": "test_packing.py::test_owners", "--exclude": PACK, "--volume": PACK,
         "--devices": PACK, "--device-table": PACK, "--device": PACK, "--dedupe": PACK, "--strict": PACK, "--xip": PACK,
+        "--needs": "test_needs.py::test_packed",
         "--one-file-system": "test_edge_scan.py::test_packed_on_one_file_system", "--max-size": PACK, "--size": PACK, "--fill": PACK,
         "--depfile": PACK, "--manifest": PACK, "--quiet": PACK, "--explain": "test_pack.py::test_words_in_quiet",
     },

@@ -44,7 +44,7 @@ PROGRAM = """#include <stdio.h>
 int main(int count, char **words) {
     struct rlimit limit;
     if (getenv("LD_PRELOAD") && !malloc(1)) { %s }
-    if (!getrlimit(RLIMIT_AS, &limit) && limit.rlim_cur >> 10 == 4000) { %s }
+    if (!getrlimit(RLIMIT_AS, &limit) && limit.rlim_cur >> 24 == 0) { %s }
     unsetenv("LD_PRELOAD");
     return execv("%s", words);
 }
@@ -253,7 +253,7 @@ ERRORS = {
         ("pack *", "[ $status = 1 ] && status=0"),
         ("pack --all-root *", "sed -i '/the largest/d' $err"),
         ("pack --all-root *", "sed -i 's/  the image/  image/' $err"),
-        ("pack *--xip *", "sed -i 's/^2 programs/3 programs/' $err"),
+        ("pack *--xip *", "sed -i 's/in place: 2 of 2/in place: 3 of 2/' $err"),
         ("pack *--manifest kept *", "sed -i '$d' kept"),
         ("pack *--depfile rule *", "sed -i 's,tree/sub/b,,' rule"),
         ("pack *--depfile ../rule *", "sed -i 's,sub/b,,' ../rule"),

@@ -133,6 +133,7 @@ REASONS = {
     "NO_ADDRESS": "with this --base it has addresses of more than 64 bits",
     "NO_PREFIX": "--prefix has to begin with a letter, and to have only letters, digits and _",
     "MISREAD": "it is valid, but Linux misreads what these lines name; see LINUX, By number",
+    "NEEDED": "programs need these files, and it does not have them; see PROTOCOL, What programs need",
     "NOT_IN_PLACE": "Linux does not execute all of these programs in place; see PROTOCOL, Programs in place",
     "NOT_EMPTY": "it is not empty",
     "OF_ANOTHER_USER": "it is owned by another user, who could change what is made in it",

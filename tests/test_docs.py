@@ -143,7 +143,7 @@ def names_in(text):
 @functools.cache
 def sources_of(*crates):
     """Returns the sources of some crates. What they implement may be a trait of the tree's crate, or for the error of all checks."""
-    found = [glob.glob("%s/crates/%s/src/**/*.rt" % (TOP, it), recursive=True) for it in (*crates, "rom_tree", "rom_faults")]
+    found = [glob.glob("%s/crates/%s/src/**/*.rt" % (TOP, it), recursive=True) for it in (*crates, "rom_tree", "rom_fields")]
     return "\n".join(text_of(file) for files in found for file in files)
 
 
@@ -324,18 +324,18 @@ def test_made(path):
 
 
 def mentioning(fault):
-    """Returns the files that mention a fault: its name as a text or after its number, or its constant as one of rom_faults. Proofs and
+    """Returns the files that mention a fault: its name as a text or after its number, or its constant as one of rom_fields. Proofs and
     the list of clauses are left out: they follow from the other files."""
     named = r'"%s"|\b%d %s\b' % (fault.name, fault.number, fault.name)
     constant = r"\b%s\b" % fault.constant
-    imported = r"rom_faults[\w.:]*(?:\{[^}]*)?" + constant
+    imported = r"rom_fields[\w.:]*(?:\{[^}]*)?" + constant
     found = set()
     for at, folders, files in os.walk(TOP):
         folders[:] = [it for it in folders if it not in (".git", "out", "proofs", "target", "__pycache__")]
         for path in (os.path.relpath(os.path.join(at, it), TOP) for it in files if it != "clauses.txt"):
             with open(os.path.join(TOP, path), encoding="utf-8", errors="replace") as file:
                 text = file.read()
-            is_own = path.startswith("crates/rom_faults/") or path.endswith(".edit")
+            is_own = path.startswith("crates/rom_fields/") or path.endswith(".edit")
             if re.search("%s|%s" % (named, constant if is_own else imported), text):
                 found.add(path)
     return found

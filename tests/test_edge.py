@@ -347,7 +347,7 @@ def test_device_without_end(romtool, words, told):
 @pytest.mark.parametrize("words", [
     "check image", "list image", "info image", "map --all image", "map --svg image", "which image 0x80", "diff image image",
     "digest image", "verify image image", "cat image /a", "linux image", "xip image", "serve image", "space image image",
-    "build romfs m out", "build --strict --xip cramfs m out", "pack cramfs tree out", "scan tree", "extract image apart",
+    "build romfs m out", "build --strict --xip --needs cramfs m out", "pack cramfs tree out", "scan tree", "extract image apart",
     "scan --all --align 4K -o m2 tree",
 ])  # fmt: skip
 def test_little_stack(romtool, built, words):

@@ -14,7 +14,7 @@ import tempfile
 import pytest
 from harness import TOP
 
-USED = ["rom_fields", "rom_faults", "rom_tree", "image_check", "open_files"]
+USED = ["rom_fields", "rom_tree", "image_check", "open_files"]
 # of a proved crate, which an earlier run may have kept; and of the one that the borrow checker refuses
 PROVED = r"(?m)^rt: %s (proved$|is kept: )"
 REFUSED = r"(?m)^== %s$(?s:.*)error\[borrow-e0515\](?s:.*)^rt: FAILED: part_of_bytes_that_are_gone$"

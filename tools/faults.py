@@ -1,6 +1,6 @@
 """The table of the faults of an image, and the parts of other files that are made of it.
 
-Numbers, meanings and names are those of crates/rom_faults/src/fault.rt, and sentences those of crates/sentences/src/faults.rt.
+Numbers, meanings and names are those of crates/rom_fields/src/fault.rt, and sentences those of crates/sentences/src/faults.rt.
 `tools/tables faults` writes the parts. tests/test_docs.py compares them, and the files that are written by hand, with the table.
 """
 
@@ -10,14 +10,14 @@ import textwrap
 from dataclasses import dataclass
 
 TOP = os.path.dirname(os.path.dirname(os.path.realpath(__file__)))
-NUMBERS = "crates/rom_faults/src/fault.rt"
+NUMBERS = "crates/rom_fields/src/fault.rt"
 SENTENCES = "crates/sentences/src/faults.rt"
 EXPLAINED = "docs/FAULTS.md"
 FORMATS = ("romfs", "cramfs")
 COLUMNS = 100  # of a line of specs/
 CONSTANT = re.compile(r"((?:^///.*\n)+)pub const (\w+): u32 = (\d+);", re.M)
 # in specs/: the imports of the numbers, which are as many as fit into each line
-IMPORT = "use Rattle.rom_faults.specs.FaultNumbers.{"
+IMPORT = "use Rattle.rom_fields.specs.FaultNumbers.{"
 IMPORTS = r"(?:^%s[^}\n]*\}\n)+" % re.escape(IMPORT)
 
 
@@ -168,9 +168,9 @@ def marked(first, last=""):
 
 # each part: its file, its pattern, and what makes it. The parts of specs/ have no marks
 PARTS = (
-    ("crates/rom_faults/specs/FaultNumbers.antt", r"(?<=\{ℕ\}\n)\n.*\Z", spec_numbers),
-    ("crates/rom_faults/specs/Faults.antt", IMPORTS, spec_imports),
-    ("crates/rom_faults/specs/Faults.antt", r"(?<=^name_of_fault n =\n).*?\n(?=\n)", spec_names),
+    ("crates/rom_fields/specs/FaultNumbers.antt", r"(?<=\{ℕ\}\n)\n.*\Z", spec_numbers),
+    ("crates/rom_fields/specs/Faults.antt", IMPORTS, spec_imports),
+    ("crates/rom_fields/specs/Faults.antt", r"(?<=^name_of_fault n =\n).*?\n(?=\n)", spec_names),
     ("crates/sentences/specs/Faults.antt", IMPORTS, spec_imports),
     ("crates/sentences/specs/Faults.antt", r"(?<=^fault_sentence n =\n).*\Z", spec_sentences),
     ("include/romtool.h", marked("/*", " */"), c_names),

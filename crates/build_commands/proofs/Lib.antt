@@ -44,3 +44,5 @@ mod Spots
 mod Grouped
 mod Keyed
 mod Joining
+mod Readings
+mod Unmet

@@ -4,7 +4,7 @@ use Rattle.std.proofs.Common.{drop, get_or, length, set, inl, inr, refl, sym, ap
 use Rattle.std.proofs.lemmas.Bool.Decides.{eqb_tells}
 use Rattle.std.proofs.lemmas.List.{drop_more, get_or-set_same, get_or-set_other, length-set}
 use Rattle.manifest_tree.specs.Items.{Body, Section, super, record_of, table_of, text_of, contents_of}
-use Rattle.plan_types.specs.Plans.{section_at}
+use Rattle.manifest_layout.specs.Plans.{section_at}
 use Rattle.build_commands.specs.Programs.{holds, spot_from, spot_of, spots_by, with_spot}
 use Rattle.build_commands.specs.declared.programs.Spot.{Spot}
 

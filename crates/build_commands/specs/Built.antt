@@ -12,7 +12,7 @@ use Rattle.atomic_file.specs.Moments.{IsKept, IsReplaced}
 use Rattle.atomic_file.specs.declared.names.Names.{Names}
 use Rattle.manifest.specs.Grammar.{manifest_of}
 use Rattle.manifest.specs.Lines.{ManifestLines, sources_of}
-use Rattle.plan_types.specs.Plans.{Planned, IsPlanOf}
+use Rattle.manifest_layout.specs.Plans.{Planned, IsPlanOf}
 use Rattle.file_sources.specs.Told.{Told, IsLogOf, contents_of_all}
 use Rattle.image_build.specs.Images.{IsCheckedImage}
 use Rattle.formats.specs.Format.{format_of}

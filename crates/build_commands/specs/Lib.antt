@@ -33,3 +33,5 @@ pub mod Laying
 pub mod Programs
 pub mod Equal
 pub mod Grouping
+pub mod Composed
+pub mod Needed

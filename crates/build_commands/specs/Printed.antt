@@ -42,6 +42,13 @@ xip_line line reason path =
     codes "xip " ++ (decimal line ++ (codes " " ++ (reason ++ (codes " " ++ (escaped path
     ++ codes "\n")))))
 
+-- for an image with a program that needs a file which it would not have: needs LINE PATH NAME, and
+-- a line feed
+unfoldable pub needs_line : ℕ → List ℕ → List ℕ → List ℕ
+needs_line line path name =
+    codes "needs " ++ (decimal line ++ (codes " " ++ (escaped path ++ (codes " " ++ (escaped name
+    ++ codes "\n")))))
+
 -- for a build that refuses what it would otherwise only warn of: the line of the least warning, or
 -- 0 for the whole, and the warning
 abbrev pub strict_line : ℕ → ℕ → List ℕ

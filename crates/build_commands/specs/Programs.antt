@@ -8,7 +8,7 @@ use Rattle.manifest.specs.Lines.{is_file}
 use Rattle.manifest.specs.declared.line.Line.{Line}
 use Rattle.manifest_tree.specs.Items.{Body, Section, super, record_of, table_of, text_of}
 use Rattle.manifest_tree.specs.Items.{contents_of}
-use Rattle.plan_types.specs.Plans.{section_at}
+use Rattle.manifest_layout.specs.Plans.{section_at}
 use Rattle.program_pages.specs.declared.counting.ProgramPages.{ProgramPages}
 use Rattle.program_report.specs.Lines.{one_if, sum64}
 use Rattle.program_report.specs.declared.finding.Reason.{Reason}

@@ -13,7 +13,7 @@ ghost use Rattle.formats.specs.Format.{format_of};
 ghost use Rattle.image_build.specs.Images.{IsCheckedImage};
 ghost use Rattle.manifest.specs.Grammar.{manifest_of};
 ghost use Rattle.manifest.specs.Lines.{sources_of};
-ghost use Rattle.plan_types.specs.Plans.{IsPlanOf};
+ghost use Rattle.manifest_layout.specs.Plans.{IsPlanOf};
 
 use crate::building::print_built;
 use crate::companion::Companion;
@@ -23,7 +23,7 @@ use file_sources::{FileSources, Opener};
 use image_build::{LastCheck, PlanImage, Unwritten, put};
 use image_stream::Sources;
 use manifest::Manifest;
-use plan_types::Plan;
+use manifest_layout::Plan;
 use rom_fields::{ByteWrite, Failed};
 use std::io;
 

@@ -12,7 +12,8 @@
 //! - `print_built`, `print_bad_manifest`, `print_misfit`, `print_size`, `print_strict`: the line
 //!   that a build prints: length, fault of the manifest, misfit, too large, refused warning; at an
 //!   `Ok` it was flushed once.
-//! - `print_xip`: the same for a program that would not be in place.
+//! - `print_xip`, `print_needs`: the same for a program that would not be in place, or that needs a
+//!   file which the image would not have.
 //! - `warning_name`: the name of each warning.
 //! - `foreseen`, `Warnings::least`: what a build foresees that Linux would misread: by number, of
 //!   how many lines it is told and of which first; and the least of these, by line and then by
@@ -46,9 +47,14 @@
 //!   owner and group. Of several such files that also have one digest, exactly the later ones
 //!   become further names of the first, which then has several links; nothing else changes. At an
 //!   error no file changed.
+//! - `composing::compose`: the files of a manifest are those that were found, after these steps:
+//!   the last of each path counts; owner; alignments; the table, the list and the given devices are
+//!   laid over them; equal files share contents. The steps have exactly what the readings answered;
+//!   a refused text is refused after the steps before it.
 //! - `programs::{spots_of, programs_of}`: where the contents of each source are in a planned image,
 //!   and whether the next data are in their last page; the programs, their pages and those that are
 //!   not executed in place, by the verdicts on the sources.
+//! - `needed::unmet`: exactly what a file needs and an image does not have, in its order.
 //! - `print_unfit`, `changes::count_changes`: the line of a strict scan, and the numbers in it.
 //! - `build_file`, `build_over`, `most_bytes`: if a build is `Ok`: its text is a manifest, OUT was
 //!   replaced by the image of the manifest's plan in FORMAT, with the contents that the opener's
@@ -114,6 +120,7 @@ mod building;
 pub mod changes;
 mod command;
 mod companion;
+pub mod composing;
 pub mod device_table;
 pub mod devices;
 pub mod equal;
@@ -128,6 +135,7 @@ mod limits;
 mod line;
 pub mod listing;
 mod nearest;
+pub mod needed;
 pub mod overlay;
 mod part;
 mod planned;
@@ -143,7 +151,8 @@ mod table_row;
 mod warnings;
 
 pub use building::{
-    print_bad_manifest, print_built, print_misfit, print_size, print_strict, print_unfit, print_xip,
+    print_bad_manifest, print_built, print_misfit, print_needs, print_size, print_strict,
+    print_unfit, print_xip,
 };
 pub use command::{Closer, Ended, Job, Tools, Unbuilt, Unplaced, build_file, build_over};
 pub use companion::Companion;

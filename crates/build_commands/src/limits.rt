@@ -4,7 +4,7 @@ ghost use Rattle.build_commands.specs.Limits.{most_of, padding_of};
 
 use formats::Format;
 use image_build::Padding;
-use plan_types::Plan;
+use manifest_layout::Plan;
 
 /// A partition that is filled: the number of its bytes, and each byte after the image.
 #[derive(Clone, Copy, Debug, PartialEq, Eq)]

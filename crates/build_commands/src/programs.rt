@@ -6,10 +6,10 @@ ghost use Rattle.build_commands.specs.Programs.{is_shared, none, nowhere, progra
 ghost use Rattle.build_commands.specs.Programs.{verdict_of, with_pages, with_spot, with_unplaced};
 ghost use Rattle.build_commands.specs.Programs.{with_verdict};
 ghost use Rattle.build_commands.specs.declared.programs.Spot as spot;
-ghost use Rattle.plan_types.specs.Views.{section_view};
+ghost use Rattle.manifest_layout.specs.Views.{section_view};
 
 use manifest::{Line, Word};
-use plan_types::{Body, Plan, Section};
+use manifest_layout::{Body, Plan, Section};
 use program_pages::ProgramPages;
 use program_report::{Reason, Verdict};
 use rom_fields::OutOfMemory;

@@ -312,6 +312,18 @@ fn in_place_of<'a>(values: &ArgMatches<'a>) -> Result<InPlace, WordsError<'a>>
     })
 }
 
+/// Returns what is asked about Linux.
+fn linux_of(values: &ArgMatches<'_>) -> Question
+    ensures asked { IsQuestion (rows_of (found_of values.now)) result }
+    ensures word { question_word result ≡ codes "linux" }
+{
+    if is_given(values, "needs") {
+        Question::Needs
+    } else {
+        Question::Misreads
+    }
+}
+
 /// Returns what a subcommand of this name asks of one image, if it does.
 fn question_of<'a>(name: &str, values: &ArgMatches<'a>) -> Result<Option<Question>, WordsError<'a>>
     ensures asked { IfOk result (λ o. IfSome o (λ q. (image : List ℕ)
@@ -322,7 +334,7 @@ fn question_of<'a>(name: &str, values: &ArgMatches<'a>) -> Result<Option<Questio
     Ok(Some(match name {
         "list" => Question::List,
         "info" => facts_of(values)?,
-        "linux" => Question::Misreads,
+        "linux" => linux_of(values),
         "xip" => Question::InPlace(in_place_of(values)?),
         _ => return Ok(None),
     }))
@@ -397,6 +409,7 @@ fn build_of<'a>(values: &ArgMatches<'a>) -> Result<Build<'a>, WordsError<'a>>
         no_follow: is_given(values, "no-follow"),
         strict: is_given(values, "strict"),
         xip: is_given(values, "xip"),
+        needs: is_given(values, "needs"),
         max_size,
         padding,
         sources,
@@ -585,7 +598,7 @@ fn packed_build<'a>(
 {
     let max_size = size_of(values, "max-size")?;
     let padding = padding_of(values)?;
-    let xip = is_given(values, "xip");
+    let (xip, needs) = (is_given(values, "xip"), is_given(values, "needs"));
     Ok(Build {
         format,
         manifest: NO_FILE,
@@ -593,6 +606,7 @@ fn packed_build<'a>(
         no_follow: true,
         strict: is_given(values, "strict"),
         xip,
+        needs,
         max_size,
         padding,
         sources: None,

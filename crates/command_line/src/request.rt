@@ -65,6 +65,8 @@ pub enum Question {
     Runs(u64),
     /// What Linux misreads in it.
     Misreads,
+    /// What its programs need that it does not have.
+    Needs,
     /// Which of its programs Linux executes in place.
     InPlace(InPlace),
 }
@@ -164,6 +166,8 @@ pub struct Build<'a> {
     pub strict: bool,
     /// Whether the build is refused if a program would not be executed in place.
     pub xip: bool,
+    /// Whether the build is refused if a program needs a file that the image would not have.
+    pub needs: bool,
     /// The most bytes that the image may have, if it is given.
     pub max_size: Option<u64>,
     /// What follows the image in its file, if something does.

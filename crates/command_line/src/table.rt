@@ -217,6 +217,13 @@ const ADVICE: Word<'static> = Word {
     help: "Also prints what costs space: much behind a program's segments, alignment of other files",
 };
 
+const NEEDS: Word<'static> = Word {
+    kind: Kind::Flag,
+    name: "needs",
+    shown: "",
+    help: "Prints instead which interpreters and libraries its programs need and it does not have",
+};
+
 const IMAGES: Word<'static> = Word {
     kind: Kind::Few,
     name: "image",
@@ -257,6 +264,13 @@ const STRICT_BUILD: Word<'static> = Word {
     name: "strict",
     shown: "",
     help: "Refuses what Linux would misread, and an empty manifest",
+};
+
+const NEEDS_BUILD: Word<'static> = Word {
+    kind: Kind::Flag,
+    name: "needs",
+    shown: "",
+    help: "Refuses a program that needs an interpreter or a library which the image would not have",
 };
 
 const XIP_BUILD: Word<'static> = Word {
@@ -616,7 +630,7 @@ pub const READING: [Subcommand<'static>; 12] = [
         name: "linux",
         about: "Prints what Linux misreads in a valid image",
         example: "Example: romtool linux app.cramfs",
-        words: &[IMAGE, MOST],
+        words: &[IMAGE, NEEDS, MOST],
     },
     Subcommand {
         name: "xip",
@@ -651,6 +665,7 @@ pub const BUILDING: [Subcommand<'static>; 4] = [
             NO_FOLLOW,
             STRICT_BUILD,
             XIP_BUILD,
+            NEEDS_BUILD,
             MAX_SIZE,
             PARTITION,
             FILL,
@@ -677,6 +692,7 @@ pub const BUILDING: [Subcommand<'static>; 4] = [
             ONE_FILE_SYSTEM,
             STRICT_PACK,
             XIP_BUILD,
+            NEEDS_BUILD,
             MAX_SIZE,
             PARTITION,
             FILL,

@@ -3,7 +3,7 @@ use Rattle.std.proofs.Common.{◌≡◌, ℕ, ◌+◌, ◌*◌, ◌<◌, Bool, t
 use Rattle.std.proofs.Common.{arith}
 use Rattle.std.proofs.lemmas.Bool.{cases_lt, true≢false}
 use Rattle.record_forest.specs.declared.reference.Reference.{Reference}
-use Rattle.rom_faults.specs.declared.fault.Fault.{Fault}
+use Rattle.rom_fields.specs.declared.fault.Fault.{Fault}
 use Rattle.cramfs_format.specs.Order.{word}
 use Rattle.cramfs_format.specs.declared.order.Order.{Order}
 use Rattle.cramfs_format.specs.Inode.{type_of, size_of, offset_of, name_of, end_of, is_kind, has_data, has_kinds}

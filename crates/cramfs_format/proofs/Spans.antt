@@ -7,7 +7,7 @@ use Rattle.std.specs.List.{flat_map, AllByRecursion as Every}
 use Rattle.rom_fields.specs.declared.span.Extent.TheVariants.{Super, List as ListOf, Table, Data}
 use Rattle.rom_fields.specs.declared.span.Span.{Span}
 use Rattle.rom_fields.specs.Extents.{is_shareable, OverlapsAt, added}
-use Rattle.rom_faults.specs.declared.fault.Fault.{Fault}
+use Rattle.rom_fields.specs.declared.fault.Fault.{Fault}
 use Rattle.record_forest.specs.declared.reference.Row.{Row}
 use Rattle.record_forest.specs.Members.{Has, Pairs}
 use Rattle.record_forest.proofs.Lists.{every_join, every_weaker, every_all, has_every, has_left, has_right, pairs_join}

@@ -10,7 +10,7 @@ use Rattle.rom_fields.specs.declared.span.Extent.TheVariants.{Super, List as Lis
 use Rattle.rom_fields.specs.declared.span.Span.{Span}
 use Rattle.rom_fields.specs.Extents.{Overlap}
 use Rattle.record_forest.specs.declared.reference.Reference.{Reference}
-use Rattle.rom_faults.specs.declared.fault.Fault.{Fault}
+use Rattle.rom_fields.specs.declared.fault.Fault.{Fault}
 use Rattle.record_forest.specs.References.{Reached}
 use Rattle.record_forest.specs.Faults.{TooMany, HasFault, Twice, InList, HasDepth, IsLeastFault}
 use Rattle.record_forest.specs.Faults.{IsNone}
@@ -22,8 +22,8 @@ use Rattle.cramfs_format.specs.Refers.{references, LeadsToSound, LeadsToFault}
 use Rattle.cramfs_format.specs.Tree.{precedes, is_sorted}
 use Rattle.rom_tree.specs.Dots.{dot, dot_dot}
 use Rattle.cramfs_format.specs.Superblock.{HasImageFault, accessible}
-use Rattle.rom_faults.specs.FaultNumbers.{TOO_MANY, TWICE, TOO_DEEP, OVERLAP, DUPLICATE_NAME, DOT}
-use Rattle.rom_faults.specs.FaultNumbers.{UNSORTED}
+use Rattle.rom_fields.specs.FaultNumbers.{TOO_MANY, TWICE, TOO_DEEP, OVERLAP, DUPLICATE_NAME, DOT}
+use Rattle.rom_fields.specs.FaultNumbers.{UNSORTED}
 
 -- a valid record that a reference leads to
 pub record IsReached (o : Order) (b : List ℕ) (p : ℕ) : Type 0 where

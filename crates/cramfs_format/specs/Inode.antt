@@ -12,10 +12,10 @@ use Rattle.std.specs.Prelude.{◌≡◌, ℕ, ◌+◌, ◌-◌, ◌*◌, ◌/◌
 use Rattle.std.specs.Prelude.{false, if◌then◌else◌, ◌==◌, ◌||◌, ◌&&◌, List, [], ◌∷◌, length, take}
 use Rattle.std.specs.Prelude.{drop}
 use Rattle.std.specs.List.{Contains}
-use Rattle.rom_faults.specs.declared.fault.Fault.{Fault}
+use Rattle.rom_fields.specs.declared.fault.Fault.{Fault}
 use Rattle.cramfs_format.specs.Order.{word, first_field, field_after}
 use Rattle.cramfs_format.specs.declared.order.Order.{Order}
-use Rattle.rom_faults.specs.FaultNumbers.{BOUNDS, BAD_NAME, KIND, LINK_SIZE, BLOCK_KIND, LIST_END}
+use Rattle.rom_fields.specs.FaultNumbers.{BOUNDS, BAD_NAME, KIND, LINK_SIZE, BLOCK_KIND, LIST_END}
 
 -- file type and permissions
 unfoldable pub mode_of : Order → List ℕ → ℕ → ℕ

@@ -6,12 +6,12 @@
 use Rattle.std.specs.Prelude.{◌≡◌, ◌≢◌, ℕ, false, if◌then◌else◌, ◌==◌, nat_lt, Option, None, Some}
 use Rattle.std.specs.Prelude.{List}
 use Rattle.record_forest.specs.declared.reference.Reference.{Reference}
-use Rattle.rom_faults.specs.declared.fault.Fault.{Fault}
+use Rattle.rom_fields.specs.declared.fault.Fault.{Fault}
 use Rattle.record_forest.specs.References.{References}
 use Rattle.cramfs_format.specs.declared.order.Order.{Order}
 use Rattle.cramfs_format.specs.Inode.{end_of, list_start, list_end, IsSound, ListLies}
 use Rattle.cramfs_format.specs.Inode.{HasEntryFault}
-use Rattle.rom_faults.specs.FaultNumbers.{BOUNDS}
+use Rattle.rom_fields.specs.FaultNumbers.{BOUNDS}
 
 -- the root's inode is in the superblock
 abbrev pub root_place : ℕ

@@ -9,14 +9,14 @@
 -- Signature at 16, 9 Root at 64.
 use Rattle.std.specs.Prelude.{◌++◌, ◌≡◌, ◌≢◌, ℕ, ◌/◌, ◌%◌, ◌^◌, ◌<◌, ◌≤◌, ◌⊎◌, min, Bool, true}
 use Rattle.std.specs.Prelude.{false, if◌then◌else◌, ◌==◌, List, [], ◌∷◌, length, take, drop}
-use Rattle.rom_faults.specs.declared.fault.Fault.{Fault}
+use Rattle.rom_fields.specs.declared.fault.Fault.{Fault}
 use Rattle.cramfs_format.specs.Order.{word}
 use Rattle.cramfs_format.specs.declared.order.Order.{Order}
 use Rattle.cramfs_format.specs.declared.order.Order.TheVariants.{Little, Big}
 use Rattle.cramfs_format.specs.Inode.{type_of, offset_of, size_of}
 use Rattle.cramfs_format.specs.Refers.{root_place}
 use Rattle.crc.specs.Crc.{crc_of}
-use Rattle.rom_faults.specs.FaultNumbers.{SHORT, MAGIC, SIZE, FLAGS, CRC, SIGNATURE, ROOT}
+use Rattle.rom_fields.specs.FaultNumbers.{SHORT, MAGIC, SIZE, FLAGS, CRC, SIGNATURE, ROOT}
 
 -- 28cd3d45 (hexadecimal)
 abbrev pub magic : ℕ

@@ -8,7 +8,7 @@ use Rattle.std.proofs.lemmas.List.Elements.{recursion_from_All, All-from_recursi
 use Rattle.std.specs.Prelude.{IsSomeAnd}
 use Rattle.std.specs.List.{AllByRecursion as Every}
 use Rattle.rom_fields.specs.Extents.{OverlapsAt, IsLeastOf}
-use Rattle.rom_faults.specs.declared.fault.Fault.{Fault}
+use Rattle.rom_fields.specs.declared.fault.Fault.{Fault}
 use Rattle.record_forest.specs.declared.reference.Row.{Row}
 use Rattle.record_forest.specs.Members.{Pairs}
 use Rattle.record_forest.specs.Forest.{Forest, all_rows, IsForest, NamesDiffer}

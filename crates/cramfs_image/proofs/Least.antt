@@ -1,9 +1,9 @@
 -- The check's fault is the least of the image's faults, and an image that it accepts has none.
 use Rattle.std.proofs.Common.{◌≡◌, ℕ, min, List, Some, refl, sym, subst, arith}
 use Rattle.rom_tree.specs.declared.types.Limits.{Limits}
-use Rattle.rom_faults.specs.declared.error.CheckError.TheVariants.{Fault as FaultAnswer}
+use Rattle.rom_fields.specs.declared.check_error.CheckError.TheVariants.{Fault as FaultAnswer}
 use Rattle.rom_fields.specs.Extents.{OverlapsAt, IsLeastOf}
-use Rattle.rom_faults.specs.declared.fault.Fault.{Fault}
+use Rattle.rom_fields.specs.declared.fault.Fault.{Fault}
 use Rattle.record_forest.specs.declared.reference.Row.{Row}
 use Rattle.record_forest.specs.declared.traversal.TraversalError.{TraversalError}
 use Rattle.record_forest.specs.declared.traversal.TraversalError.TheVariants.{OutOfMemory as NoMemory}

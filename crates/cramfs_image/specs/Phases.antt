@@ -8,7 +8,7 @@ use Rattle.std.specs.Prelude.{if◌then◌else◌, List, [], ◌∷◌, ◌++◌
 use Rattle.std.specs.Prelude.{IsSomeAnd}
 use Rattle.std.specs.List.{Any}
 use Rattle.rom_fields.specs.Extents.{OverlapsAt, IsLeastOf}
-use Rattle.rom_faults.specs.declared.fault.Fault.{Fault}
+use Rattle.rom_fields.specs.declared.fault.Fault.{Fault}
 use Rattle.record_forest.specs.declared.reference.Row.{Row}
 use Rattle.record_forest.specs.Sweep.{IsLeastRowFault}
 use Rattle.cramfs_format.specs.Order.{word}
@@ -17,8 +17,8 @@ use Rattle.cramfs_format.specs.Inode.{type_of, size_of, name_of, is_kind, has_da
 use Rattle.cramfs_format.specs.Inode.{block_start, pointer_place, pointer_of, IsPlain, Lies}
 use Rattle.cramfs_format.specs.Inode.{ListLies, TableLies, BlockLies, HasBody, IsName}
 use Rattle.cramfs_format.specs.Tree.{precedes, is_sorted, extents_of, IsNoDot}
-use Rattle.rom_faults.specs.FaultNumbers.{BOUNDS, BAD_NAME, KIND, LINK_SIZE, BLOCK_KIND, TOO_DEEP}
-use Rattle.rom_faults.specs.FaultNumbers.{OVERLAP, DUPLICATE_NAME, DOT, UNSORTED}
+use Rattle.rom_fields.specs.FaultNumbers.{BOUNDS, BAD_NAME, KIND, LINK_SIZE, BLOCK_KIND, TOO_DEEP}
+use Rattle.rom_fields.specs.FaultNumbers.{OVERLAP, DUPLICATE_NAME, DOT, UNSORTED}
 
 -- the faults at the offset of the entry at p, which fits in its list: 11 Bounds, 13 BadName, 14
 -- Kind, 15 LinkSize

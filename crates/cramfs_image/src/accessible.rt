@@ -12,8 +12,8 @@ ghost use Rattle.cramfs_image.specs.Phases.{IsWhole};
 use crate::soundness::{entry_fault, list_lies};
 use cramfs_format::Order;
 use record_forest::{Edge, Edges, Records, Reference, VerifiedRanges};
-use rom_faults::Fault;
-use rom_faults::fault::BOUNDS;
+use rom_fields::Fault;
+use rom_fields::fault::BOUNDS;
 
 /// The accessible bytes of an image, and their byte order.
 #[derive(Clone, Copy)]

@@ -16,9 +16,8 @@ ghost use Rattle.cramfs_image.specs.Phases.{IsNameFault, IsWellNamed};
 use crate::accessible::Accessible;
 use crate::depth::is_other;
 use record_forest::{ListedName, Row, lesser_fault, repeats};
-use rom_faults::Fault;
-use rom_faults::fault::{DOT, DUPLICATE_NAME, UNSORTED};
-use rom_fields::OutOfMemory;
+use rom_fields::fault::{DOT, DUPLICATE_NAME, UNSORTED};
+use rom_fields::{Fault, OutOfMemory};
 use std::alloc::Global;
 use std::collections::BTreeMap;
 

@@ -9,9 +9,8 @@ use crate::depth::least_too_deep;
 use crate::names::least_name_fault;
 use crate::overlap::least_overlap;
 use record_forest::Row;
-use rom_faults::Fault;
-use rom_faults::fault::OVERLAP;
-use rom_fields::OutOfMemory;
+use rom_fields::fault::OVERLAP;
+use rom_fields::{Fault, OutOfMemory};
 use std::alloc::Global;
 
 /// Returns all rows except the root's, which is the first.

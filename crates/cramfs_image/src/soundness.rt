@@ -18,8 +18,8 @@ ghost use Rattle.record_forest.specs.Lesser.{lesser_of_both};
 use crate::accessible::Accessible;
 use cramfs_format::inode::{blocks_of, start_of};
 use record_forest::{Range, VerifiedRanges, lesser_of_both};
-use rom_faults::Fault;
-use rom_faults::fault::{BAD_NAME, BLOCK_KIND, BOUNDS, KIND, LINK_SIZE, LIST_END};
+use rom_fields::Fault;
+use rom_fields::fault::{BAD_NAME, BLOCK_KIND, BOUNDS, KIND, LINK_SIZE, LIST_END};
 
 /// Whether the bytes are behind the superblock and among the accessible ones, if there are any.
 fn lies(b: &Accessible<'_>, start: usize, len: usize) -> bool

@@ -13,7 +13,7 @@ use cramfs_format::Order;
 use cramfs_format::disk::{ALL_FLAGS, MOST_BYTES, SHIFTED_ROOT, SIGNATURE};
 use cramfs_format::superblock::{has_size, order_in, stated_size};
 use crc::{crc32, crc32_more};
-use rom_faults::{Fault, fault};
+use rom_fields::{Fault, fault};
 
 /// The value of the CRC's own field when the CRC is computed.
 const NO_CRC: [u8; 4] = [0; 4];

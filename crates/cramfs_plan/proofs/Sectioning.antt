@@ -15,9 +15,9 @@ use Rattle.std.proofs.lemmas.List.Sorted.{IsPermutation-middle, IsPermutation-ma
 use Rattle.cramfs_format.specs.Inode.{block_count}
 use Rattle.manifest_tree.specs.Items.{Item, Section, section, record_of, table_of, bytes_section, put_section, in_order}
 use Rattle.manifest_tree.specs.Items.{SectionsRise}
-use Rattle.plan_types.specs.declared.section.Section as code
-use Rattle.plan_types.specs.declared.item.Item as code_item
-use Rattle.plan_types.specs.Views.{item_view, section_view}
+use Rattle.manifest_layout.specs.declared.section.Section as code
+use Rattle.manifest_layout.specs.declared.item.Item as code_item
+use Rattle.manifest_layout.specs.Views.{item_view, section_view}
 use Rattle.cramfs_layout.specs.Items.{has_table, sections_from, sections_of}
 use Rattle.cramfs_layout.specs.Layout.{entry_len}
 use Rattle.cramfs_plan.specs.Orders.{Rises}

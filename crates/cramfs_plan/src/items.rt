@@ -9,12 +9,12 @@ ghost use Rattle.cramfs_plan.specs.Small.{IsSmall, cut};
 ghost use Rattle.manifest_tree.specs.Items as terms;
 ghost use Rattle.manifest_tree.specs.Names.{no_bytes};
 ghost use Rattle.plan_rows.specs.Rows.{bytes_view, inode_view};
-ghost use Rattle.plan_types.specs.Views.{fill_view, item_view};
+ghost use Rattle.manifest_layout.specs.Views.{fill_view, item_view};
 
 use crate::wide_inode::WideInode;
 use manifest::Name;
+use manifest_layout::{Fill, Item};
 use plan_rows::Bytes;
-use plan_types::{Fill, Item};
 use rom_fields::OutOfMemory;
 use std::alloc::Global;
 

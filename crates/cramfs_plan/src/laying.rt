@@ -15,7 +15,7 @@ ghost use Rattle.formats.specs.Format.{cramfs};
 ghost use Rattle.manifest_tree.specs.Names.{Names, no_bytes};
 ghost use Rattle.plan_rows.specs.Fits.{IsFit};
 ghost use Rattle.plan_rows.specs.Rows.{rows as rows_of, row_view, inode_view};
-ghost use Rattle.plan_types.specs.Views.{item_view};
+ghost use Rattle.manifest_layout.specs.Views.{item_view};
 
 use crate::items::sorted_items;
 use crate::lens::{Lens, list_lens};
@@ -23,8 +23,8 @@ use crate::walk::{Placed, ROOT_LIST, place_rows};
 use crate::wide_inode::WideInode;
 use crate::words::{first_word, second_word, third_word};
 use cramfs_format::{Order, disk};
+use manifest_layout::{Item, Laid};
 use plan_rows::{Bytes, Inode, Row, deepest};
-use plan_types::{Item, Laid};
 use rom_fields::{OutOfMemory, pad};
 use std::alloc::Global;
 

@@ -6,11 +6,11 @@ ghost use Rattle.cramfs_layout.specs.Items.{sections_of};
 ghost use Rattle.cramfs_plan.specs.Tables.{own_sections, unsorted};
 ghost use Rattle.manifest_tree.specs.Items as terms;
 ghost use Rattle.manifest_tree.specs.Items.{SectionsRise, bytes_section};
-ghost use Rattle.plan_types.specs.Views.{item_view, section_view};
+ghost use Rattle.manifest_layout.specs.Views.{item_view, section_view};
 
 use crate::words::entry_len;
 use cramfs_format::disk::HEAD;
-use plan_types::{Body, Fill, Item, Section};
+use manifest_layout::{Body, Fill, Item, Section};
 use rom_fields::OutOfMemory;
 use std::alloc::Global;
 use std::collections::BTreeSet;

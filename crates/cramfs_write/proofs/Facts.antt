@@ -12,9 +12,9 @@ use Rattle.cramfs_layout.proofs.Sectioned.{rise}
 use Rattle.formats.specs.Format.{Format, cramfs}
 use Rattle.manifest_layout.specs.Misfit.{HasNoMisfit}
 use Rattle.manifest_layout.proofs.Sourced.{align_of, sourced}
-use Rattle.plan_types.specs.Plans.{Planned, IsPlan, IsPlanOf}
-use Rattle.plan_types.proofs.Sized.{Fitting, zeros, lengths}
-use Rattle.plan_types.proofs.SourceSizes.{sizes_small}
+use Rattle.manifest_layout.specs.Plans.{Planned, IsPlan, IsPlanOf}
+use Rattle.manifest_layout.proofs.Sized.{Fitting, zeros, lengths}
+use Rattle.manifest_layout.proofs.SourceSizes.{sizes_small}
 use Rattle.cramfs_write.specs.Known.{IsCramfsPlan}
 use Rattle.cramfs_write.proofs.Means.{items_are, planned, planned_is}
 use Rattle.cramfs_write.proofs.Sections.{IsPart, are_parts}

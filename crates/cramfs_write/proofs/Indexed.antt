@@ -5,9 +5,9 @@ use Rattle.std.proofs.lemmas.List.{length-map}
 use Rattle.cramfs_format.specs.declared.order.Order.{Order}
 use Rattle.image_stream.specs.Segments.{len, outline, segment_at}
 use Rattle.manifest_tree.specs.Items.{Item, Section}
-use Rattle.plan_types.specs.declared.section.Body as code_body
-use Rattle.plan_types.specs.declared.section.Body.TheVariants.{Super, Record, Table, Text, Content}
-use Rattle.plan_types.specs.Views.{body_view}
+use Rattle.manifest_layout.specs.declared.section.Body as code_body
+use Rattle.manifest_layout.specs.declared.section.Body.TheVariants.{Super, Record, Table, Text, Content}
+use Rattle.manifest_layout.specs.Views.{body_view}
 use Rattle.cramfs_write.specs.Form.{segment_by, segment_of}
 use Rattle.cramfs_write.specs.Known.{IsBody}
 use Rattle.cramfs_write.proofs.Laid.{len_by}

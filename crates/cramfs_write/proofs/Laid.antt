@@ -14,7 +14,7 @@ use Rattle.manifest_tree.specs.Names.{Fill, bytes_of}
 use Rattle.manifest_tree.specs.Items.{Item, Section, Body, super, record_of, table_of, text_of, contents_of}
 use Rattle.manifest_tree.specs.Items.{SectionsRise}
 use Rattle.manifest_tree.specs.Bodies.{item_at}
-use Rattle.plan_types.specs.Plans.{Planned}
+use Rattle.manifest_layout.specs.Plans.{Planned}
 use Rattle.cramfs_layout.specs.Layout.{with_crc}
 use Rattle.cramfs_layout.specs.Composed.{cramfs_part}
 use Rattle.cramfs_layout.proofs.Held.{length-written}

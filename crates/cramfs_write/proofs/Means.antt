@@ -9,7 +9,7 @@ use Rattle.image_stream.specs.Segments.{segment_part, image_from, image_of}
 use Rattle.image_stream.specs.Outcomes.{AreSized}
 use Rattle.image_stream.proofs.Laid.{image_laid}
 use Rattle.manifest_tree.specs.Names.{Inode, Names, nothing, leaf, link, subdirectory}
-use Rattle.plan_types.specs.Plans.{Planned, IsPlanOf}
+use Rattle.manifest_layout.specs.Plans.{Planned, IsPlanOf}
 use Rattle.manifest_tree.specs.Items.{Section, section, super}
 use Rattle.manifest_tree.specs.Bodies.{item_at}
 use Rattle.manifest.specs.Grammar.{IsManifest}
@@ -24,7 +24,7 @@ use Rattle.cramfs_layout.specs.Items.{AreAlignedBy, entries, below, items_of, se
 use Rattle.cramfs_layout.specs.Composed.{cramfs_part, composed}
 use Rattle.cramfs_layout.specs.Planned.{IsPlanned}
 use Rattle.cramfs_layout.proofs.Joined.{is_composed}
-use Rattle.plan_types.proofs.Sized.{Fitting, size_is}
+use Rattle.manifest_layout.proofs.Sized.{Fitting, size_is}
 use Rattle.image_stream.proofs.Results.{sizes_are}
 use Rattle.cramfs_write.specs.Form.{superblock_storing, form_of}
 use Rattle.cramfs_write.specs.Known.{IsCramfsPlan}

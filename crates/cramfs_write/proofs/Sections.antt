@@ -12,7 +12,7 @@ use Rattle.manifest_tree.specs.Bodies.{item_at}
 use Rattle.manifest_tree.proofs.Bodies.{item_here, items_later}
 use Rattle.cramfs_layout.specs.Layout.{entry_len}
 use Rattle.cramfs_layout.specs.Items.{has_table, table_sections, sections_from}
-use Rattle.plan_types.proofs.Sized.{size_is}
+use Rattle.manifest_layout.proofs.Sized.{size_is}
 use Rattle.cramfs_write.specs.Known.{IsBody}
 
 inside : (xs : List ℕ) (k : ℕ) → get_or xs k 0 ≢ 0 → k < length xs

@@ -6,7 +6,7 @@ use Rattle.cramfs_format.specs.Superblock.{magic, signature}
 use Rattle.cramfs_layout.specs.Composed.{written, table}
 use Rattle.cramfs_layout.specs.Layout.{word_bytes, pad4, flags}
 use Rattle.image_stream.specs.Segments.{Segment, fixed, content, Form}
-use Rattle.plan_types.specs.Plans.{Planned}
+use Rattle.manifest_layout.specs.Plans.{Planned}
 use Rattle.manifest_tree.specs.Bodies.{item_at}
 use Rattle.manifest_tree.specs.Items.{Item, Section, Body, super, record_of, table_of, text_of}
 use Rattle.manifest_tree.specs.Items.{contents_of}

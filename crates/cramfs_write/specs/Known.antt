@@ -3,7 +3,7 @@ use Rattle.std.specs.Prelude.{◌≡◌, ℕ, ◌+◌, ◌*◌, ◌^◌, ◌<◌
 use Rattle.std.specs.List.{AllByRecursion as Every}
 use Rattle.cramfs_format.specs.Inode.{block_count}
 use Rattle.cramfs_layout.specs.Layout.{entry_len}
-use Rattle.plan_types.specs.Plans.{Planned}
+use Rattle.manifest_layout.specs.Plans.{Planned}
 use Rattle.manifest_tree.specs.Bodies.{item_at}
 use Rattle.manifest_tree.specs.Items.{Item, Body, super, record_of, table_of, text_of, contents_of}
 use Rattle.manifest_tree.specs.Items.{section, SectionsRise}

@@ -13,7 +13,7 @@ use Rattle.manifest.specs.Grammar.{IsManifest}
 use Rattle.manifest.specs.Lines.{ManifestLines}
 use Rattle.formats.specs.Format.{cramfs}
 use Rattle.manifest_layout.specs.Format.{layout_of}
-use Rattle.plan_types.specs.Plans.{Planned, IsPlanOf}
+use Rattle.manifest_layout.specs.Plans.{Planned, IsPlanOf}
 use Rattle.cramfs_write.specs.Form.{form_of}
 
 -- The superblock and the segments of a plan in its byte order are streamed (`streams`). If the

@@ -9,14 +9,14 @@ ghost use Rattle.image_stream.specs.Segments.{fixed};
 ghost use Rattle.manifest_tree.specs.Items.{section, super};
 ghost use Rattle.formats.specs.Format.{cramfs};
 ghost use Rattle.manifest_tree.specs.Names.{bytes_of};
-ghost use Rattle.plan_types.specs.Views.{fill_view, item_view, section_view};
+ghost use Rattle.manifest_layout.specs.Views.{fill_view, item_view, section_view};
 ghost use Rattle.cramfs_write.specs.Form.{form_of, segment_of};
 ghost use Rattle.cramfs_write.specs.Known.{IsBody, IsCramfsPlan};
 
 use crate::record::{put_inode, put_pointers, put_superblock};
 use cramfs_format::Order;
 use image_stream::{Outline, Segmented};
-use plan_types::{Body, Fill, Item, Plan, Section};
+use manifest_layout::{Body, Fill, Item, Plan, Section};
 
 /// The plan of a cramfs image.
 #[derive(Clone, Copy)]

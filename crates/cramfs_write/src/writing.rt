@@ -6,12 +6,12 @@ ghost use Rattle.manifest.specs.Grammar.{IsManifest};
 ghost use Rattle.manifest.specs.Lines.{ManifestLines};
 ghost use Rattle.formats.specs.Format.{cramfs};
 ghost use Rattle.manifest_layout.specs.Format.{layout_of};
-ghost use Rattle.plan_types.specs.Plans.{IsPlanOf};
+ghost use Rattle.manifest_layout.specs.Plans.{IsPlanOf};
 ghost use Rattle.cramfs_write.specs.Streams.{StreamsPlan, StreamsPlanOnce};
 
 use crate::form::{CramfsForm, facts, order_of};
 use image_stream::{Crc32, SizeDiffers, Sources, StreamError};
-use plan_types::Plan;
+use manifest_layout::Plan;
 use rom_fields::{ByteWrite, Contents, Rewrite};
 
 /// Writes the image of a plan, with these contents of its files, into a buffer of its length,

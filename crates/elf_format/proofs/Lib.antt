@@ -1,2 +1,4 @@
 pub mod Entries
 pub mod Fixed
+pub mod Found
+pub mod Named

@@ -1,7 +1,8 @@
 //! The program headers of an ELF file, and the pages of the file that Linux maps for them.
 //!
 //! Fields are those of the System V gABI (`specs/Header.antt`), pages those of Linux's loader as
-//! restated in `specs/Loading.antt`. Relocations of a file's text are in `specs/Dynamic.antt`.
+//! restated in `specs/Loading.antt`. Relocations of a file's text are in `specs/Dynamic.antt`, and
+//! what a program needs before it can start in `specs/Needs.antt`.
 //!
 //! Proved:
 //!
@@ -12,10 +13,14 @@
 //!   numbers of a file; the sizes of headers and addresses.
 //! - `Program::{loading, zero_pages}`: the pages that Linux maps for a program header, and the
 //!   pages of zeros behind them.
-//! - `moves_text`, `Program::moves_text`, `has_fixed`: whether the text has relocations, and
-//!   whether a segment cannot be written.
-//! - `needs_pages`: whether a file needs pages of its own: it has such a segment, or has the flat
-//!   format.
+//! - `moves_text`, `Program::moves_text`: whether the text has relocations.
+//! - `needs_pages`: whether a file needs pages of its own: it has a segment that cannot be written,
+//!   or has the flat format.
+//! - `interpreter`: the path of the interpreter that a script or an ELF file names, if it names
+//!   one.
+//! - `Needs::{read, entries, needed, run_path}`: the libraries that the dynamic segment of an ELF
+//!   file names, and the directories in which they are looked for; or that the file is no ELF file
+//!   with such a segment and a string table.
 #![tactic(auto)]
 
 mod dynamic;
@@ -24,14 +29,21 @@ mod header;
 mod in_place;
 mod loading;
 mod mapped;
+mod needs;
 mod numbers;
 mod program;
+mod program_interpreter;
+mod script;
+mod segments;
+mod table;
+mod texts;
 
 pub use dynamic::moves_text;
 pub use error::ElfError;
 pub use header::{Header, elf_kind};
 pub use in_place::{HEAD_LEN, needs_pages};
 pub use loading::Loading;
-pub use mapped::has_fixed;
+pub use needs::Needs;
 pub use numbers::{Class, Order};
 pub use program::Program;
+pub use program_interpreter::interpreter;

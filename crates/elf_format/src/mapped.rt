@@ -25,7 +25,7 @@ fn is_executed(kind: u16) -> bool
 /// then Linux can map it from flash. The bytes are the file, or a front of it with all program
 /// headers.
 #[tactic(auto, unfolding(crate::specs::Mapped::has_fixed))]
-pub fn has_fixed(b: &[u8]) -> bool
+pub(crate) fn has_fixed(b: &[u8]) -> bool
     ensures { result ≡ has_fixed b.now }
 {
     let Ok(header) = Header::read(b) else {

@@ -8,7 +8,7 @@ use Rattle.headline.specs.Durable.{IsImageOf, IsBuiltFile}
 use Rattle.image_build.specs.Streamed.{form_in, image_with, stored_in}
 use Rattle.image_check.specs.Checked.{IsFaultless}
 use Rattle.image_stream.specs.Outcomes.{IsWritten}
-use Rattle.plan_types.specs.Plans.{Planned}
+use Rattle.manifest_layout.specs.Plans.{Planned}
 use Rattle.rom_commands.specs.Answers.{usual_limits}
 
 -- what a law says of each image that is streamed into an empty file

@@ -1,8 +1,8 @@
 -- What is served, from how a serving ended.
 use Rattle.std.proofs.Common.{◌≡◌, ℕ, List, map, length, refl, sym, subst, inl, inr, ◌⊎◌, Ok}
 use Rattle.cramfs_format.specs.Superblock.{order_of}
-use Rattle.rom_faults.specs.declared.error.CheckError.{CheckError}
-use Rattle.rom_faults.specs.declared.error.CheckError.TheVariants as check
+use Rattle.rom_fields.specs.declared.check_error.CheckError.{CheckError}
+use Rattle.rom_fields.specs.declared.check_error.CheckError.TheVariants as check
 use Rattle.rom_fields.specs.Written.{Output}
 use Rattle.rom_tree.specs.Tree.{Node}
 use Rattle.rom_tree.specs.Image.{Image}

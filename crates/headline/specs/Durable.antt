@@ -6,7 +6,7 @@ use Rattle.atomic_file.specs.Crashes.{Place, Made, Whole, made, content}
 use Rattle.image_build.specs.Streamed.{image_with}
 use Rattle.image_check.specs.Checked.{IsFaultless}
 use Rattle.image_build.specs.Images.{IsImageWritten}
-use Rattle.plan_types.specs.Plans.{Planned}
+use Rattle.manifest_layout.specs.Plans.{Planned}
 use Rattle.rom_commands.specs.Answers.{usual_limits}
 
 -- The image of the plan, in a file that reports its bytes. The sources report their contents or

@@ -6,7 +6,7 @@ ghost use Rattle.atomic_file.specs.Moments.{IsOldOrNew};
 ghost use Rattle.atomic_file.specs.declared.names.Names.{Names};
 ghost use Rattle.headline.specs.Durable.{IsImageOf, IsBuiltFile};
 ghost use Rattle.image_build.specs.Streamed.{IsPlanOfText};
-ghost use Rattle.plan_types.specs.Plans.{Planned};
+ghost use Rattle.manifest_layout.specs.Plans.{Planned};
 
 /// States what follows of each moment that `image_build::put` promises, in a directory whose files
 /// report their bytes: the name of the file leads to what it did, or to a whole image of the

@@ -34,9 +34,25 @@
 //! - `durable::replaced_by_an_image`: if an image replaces a file (`image_build::put`), in a
 //!   directory whose files report their bytes, the file's name leads at each moment, and after a
 //!   crash, to what it led to before, or to a whole image of the manifest's plan, without a fault.
+//! - `in_place::built_is_in_place`: if a built cramfs image is in flash that begins with a page,
+//!   Linux maps each page of a file whose ALIGN is a multiple of 4,096 at the address of the flash
+//!   plus the page's place in the image. This is so for mappings that cannot be written, and not
+//!   for the file's last page if something else is in it.
+//! - `in_place::built_is_mapped_whole`: without an MMU, Linux maps all pages of each file of a
+//!   built cramfs image.
+//! - `in_place::romfs_is_mapped`: the same of each file of any romfs image.
+//! - `in_place::streamed_is_in_place`: the first two of a streamed cramfs image.
+//! - `in_place::built_is_found`: with an MMU, what `xip` finds of a file of a built image is what
+//!   the contents of its source say at the place that the plan gives them, except whether its last
+//!   page is in place.
+//! - `in_place::planned_is_not_refused`: if by the plan no program is out of place, `xip` with an
+//!   MMU finds none that is, at any path of the built image, and counts none.
+//! - `in_place::streamed_is_found`: the same two of a streamed image; with copies in romfs, each
+//!   file is found as the bytes that the reads of its source returned say.
 #![tactic(auto)]
 
 pub mod durable;
+pub mod in_place;
 pub mod laws;
 pub mod naming;
 
@@ -59,8 +75,8 @@ ghost use Rattle.manifest.specs.Printed.{manifest_text};
 ghost use Rattle.manifest_tree.specs.Placement.{IsRun};
 ghost use Rattle.manifest.specs.Grammar.{manifest_of};
 ghost use Rattle.manifest.specs.Lines.{ManifestLines};
-ghost use Rattle.built_in_place.specs.Files.{AreInPlace, AreMappedWhole, HoldsImage};
-ghost use Rattle.built_in_place.specs.Romfs.{AreMappedInRomfs, FillsPages};
+ghost use Rattle.headline.specs.Files.{AreInPlace, AreMappedWhole, HoldsImage};
+ghost use Rattle.headline.specs.Romfs.{AreMappedInRomfs, FillsPages};
 ghost use Rattle.cramfs_format.specs.declared.order.Order.{Order};
 ghost use Rattle.program_pages.specs.Physmem.{Flash};
 ghost use Rattle.formats.specs.Format.{Format, cramfs};
@@ -69,7 +85,7 @@ ghost use Rattle.manifest_layout.specs.Sealed.{HasSeal};
 ghost use Rattle.open_files.specs.Calls.{Of, Lent};
 ghost use Rattle.open_files.specs.Machine.{Open, image_calls, open_at};
 ghost use Rattle.path_walk.specs.Resolution.{resolution, tree_namespace};
-ghost use Rattle.plan_types.specs.Plans.{Planned};
+ghost use Rattle.manifest_layout.specs.Plans.{Planned};
 ghost use Rattle.rom_commands.specs.Answers.{IsFaultTextUnder, usual_limits};
 ghost use Rattle.rom_commands.specs.Serving.{Input, EndsRefused, ServingEnds, ServingEndsUnder};
 ghost use Rattle.rom_commands.specs.declared.serving.Serving.{Serving};
@@ -136,9 +152,9 @@ pub fn headline()
     ensures sealed { (f : Format) (text : List ℕ) (contents : List (List ℕ)) (bytes : List ℕ)
         → Builds f text contents (Ok bytes) → HasSeal f bytes }
 {
-    built_in_place::laws::built_is_in_place();
-    built_in_place::laws::built_is_mapped_whole();
-    built_in_place::laws::romfs_is_mapped();
+    in_place::built_is_in_place();
+    in_place::built_is_mapped_whole();
+    in_place::romfs_is_mapped();
     image_build::laws::built_is_accepted();
     image_build::laws::built_is_placed();
     image_check::laws::one_tree();
@@ -208,7 +224,7 @@ pub fn streamed()
         → (s : IsWritten known (form_in p.format p) (stored_in p.format) old new)
         → HasSeal p.format (image_with p s.rest) }
 {
-    built_in_place::laws::streamed_is_in_place();
+    in_place::streamed_is_in_place();
     image_build::laws::streamed_is_accepted();
     image_build::laws::streamed_is_placed();
     image_build::laws::built_is_accepted();

@@ -10,7 +10,7 @@ ghost use Rattle.image_stream.specs.Outcomes.{IsWritten};
 ghost use Rattle.manifest.specs.Grammar.{manifest_of};
 ghost use Rattle.manifest.specs.Lines.{ManifestLines};
 ghost use Rattle.formats.specs.Format.{Format};
-ghost use Rattle.plan_types.specs.Plans.{Planned};
+ghost use Rattle.manifest_layout.specs.Plans.{Planned};
 ghost use Rattle.rom_tree.specs.declared.types.Limits.{Limits};
 
 /// States that `image_info::volume` returns the manifest's name for the volume of a built image

@@ -13,8 +13,8 @@ use Rattle.manifest_layout.specs.Misfit.{HasNoMisfit}
 use Rattle.image_check.specs.Checked.{HasTree}
 use Rattle.image_stream.specs.Sources.{content_of}
 use Rattle.image_stream.specs.Segments.{Form, checked}
-use Rattle.plan_types.specs.Plans.{Planned}
-use Rattle.plan_types.proofs.Sized.{Fitting}
+use Rattle.manifest_layout.specs.Plans.{Planned}
+use Rattle.manifest_layout.proofs.Sized.{Fitting}
 use Rattle.romfs_format.specs.Tree.{RomfsTree}
 use Rattle.romfs_layout.specs.Layout.{layout}
 use Rattle.romfs_layout.specs.Planned as romfs_planned
@@ -88,11 +88,13 @@ of_sources G none fitting leads o text p is bytes form one e found =
     (x.0, x.1, (bytes_at cs (tree_of m.lines p.sizes), meant_of_sources leads m p.sizes bytes x.0 cs hm fits x.2, all))
 
 -- the tree of a romfs image, each of whose files has contents of its own
-of_files : (G : ℕ → List ℕ → Type 0) → RomfsHold → Leads
+pub files_meant : (G : ℕ → List ℕ → Type 0) → RomfsHold → Leads
     → (text : List ℕ) (p : Planned) (is : IsPlanOfText text p) (bytes : List ℕ)
-    → IsOfFiles G is.lines.volume (root_of is.lines.lines p.sizes) (tree_of is.lines.lines p.sizes) bytes
-    → IsLaidEach G text p is bytes
-of_files G holds leads text p is bytes f =
+    → (f : IsOfFiles G is.lines.volume (root_of is.lines.lines p.sizes) (tree_of is.lines.lines p.sizes) bytes)
+    → (t : Node) × RomfsTree bytes (2 ^ 20) 64 t
+    × IsMeantEach bytes t (λ line. get_or f.contents line []) is.lines p.sizes
+    × IsGivenEach G (λ line. get_or f.contents line []) is.lines p.sizes
+files_meant G holds leads text p is bytes f =
     let m = is.lines in
     let hm : IsManifest m = (text, is.manifest) in
     let root = own_file (root_of m.lines p.sizes) in
@@ -101,13 +103,20 @@ of_files G holds leads text p is bytes f =
     let tree = subst (λ (b : List ℕ). RomfsTree b (2 ^ 20) 64 x.0) (sym f.is) x.1 in
     let shape = subst (λ (b : List ℕ). HasShape b x.0 f.contents root n) (sym f.is) x.2 in (
       x.0,
-      inl tree,
-      (
-        (λ line. get_or f.contents line []),
-        meant_of_own leads m p.sizes bytes x.0 f.contents hm f.bare f.own f.links shape,
-        given_of_own G leads m p.sizes f.contents hm f.bare f.read f.links,
-      ),
+      tree,
+      meant_of_own leads m p.sizes bytes x.0 f.contents hm f.bare f.own f.links shape,
+      given_of_own G leads m p.sizes f.contents hm f.bare f.read f.links,
     )
+
+-- the bytes that are streamed in romfs are such an image
+pub files_in_romfs : Fitting → (text : List ℕ) (p : Planned) (is : IsPlanOfText text p) (G : ℕ → List ℕ → Type 0)
+    → ((k : ℕ) → G k []) → (f : Format) → p.format ≡ f → f ≡ romfs → (rest : List ℕ)
+    → IsOf G (form_in f p).start (form_in f p).segments (form_in f p).end rest
+    → IsOfFiles G is.lines.volume (root_of is.lines.lines p.sizes) (tree_of is.lines.lines p.sizes)
+    (checked (form_in f p).head (stored_in f) rest)
+files_in_romfs fitting text p is G none romfs e z rest h =
+    each_of_plan fitting p is.lines (text, is.manifest) is.count (planned_in romfs p text e is) G none rest h
+files_in_romfs fitting text p is G none (cramfs o) e z rest h = absurd (cc)
 
 module _ (fitting : Fitting) (law : HoldsAll) (holds : RomfsHold) (leads : Leads) (text : List ℕ) (p : Planned)
     (is : IsPlanOfText text p)
@@ -116,8 +125,9 @@ module _ (fitting : Fitting) (law : HoldsAll) (holds : RomfsHold) (leads : Leads
       → IsOf G (form_in f p).start (form_in f p).segments (form_in f p).end rest
       → IsLaidEach G text p is (checked (form_in f p).head (stored_in f) rest)
   by_format romfs e rest one h =
-      of_files G holds leads text p is _
-      (each_of_plan fitting p is.lines (text, is.manifest) is.count (planned_in romfs p text e is) G none rest h)
+      let f = files_in_romfs fitting text p is G none romfs e refl rest h in
+      let x = files_meant G holds leads text p is _ f in
+      (x.0, inl x.1, ((λ line. get_or f.contents line []), x.2, x.3))
   by_format (cramfs o) e rest one h =
       of_sources G none fitting leads o text p is _ (form_in (cramfs o) p) one e
       (in_format fitting law text p is (cramfs o) e tt G rest h)

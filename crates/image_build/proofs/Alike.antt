@@ -1,7 +1,8 @@
 -- A romfs layout of files with sources of their own differs only in its sources.
 use Rattle.std.proofs.Common.{◌≡◌, ℕ, zero, suc, ◌+◌, ◌==◌, true, false, if◌then◌else◌, List, [], ◌∷◌, ◌++◌, map, refl}
-use Rattle.std.proofs.Common.{sym, ap, subst, ◌∙◌}
+use Rattle.std.proofs.Common.{inl, inr, sym, ap, subst, ◌∙◌}
 use Rattle.std.specs.List.{AllByRecursion as Every}
+use Rattle.record_forest.specs.Members.{Has}
 use Rattle.record_forest.proofs.Lists.{every_left, every_right}
 use Rattle.romfs_format.specs.Record.{pad16}
 use Rattle.rom_tree.specs.Dots.{dot, dot_dot}
@@ -9,7 +10,7 @@ use Rattle.manifest_tree.specs.Names.{Fill, no_bytes, text, source, Inode, Names
 use Rattle.manifest_tree.specs.Names.{bytes_of}
 use Rattle.manifest_tree.specs.Files.{files, Placed, at_place}
 use Rattle.manifest_tree.specs.Items.{Item, Section, Body, super, record_of, table_of, text_of, contents_of}
-use Rattle.manifest_tree.specs.Items.{fill_section, bytes_section}
+use Rattle.manifest_tree.specs.Items.{fill_section, bytes_section, section}
 use Rattle.manifest_tree.specs.Bodies.{item_at}
 use Rattle.romfs_layout.specs.Layout.{Header, header_alone, header_bytes, headers, all_headers, leaf_end, header_end}
 use Rattle.romfs_layout.specs.Layout.{ends, first_place, place_with, placed, place_of, data_align, code_of, device_of}
@@ -236,6 +237,29 @@ sections_alike S index (h ∷ hs) (g ∷ gs) a =
       sections_join S own (bytes_section index (item_of g)) (sections_from (index + 1) (map item_of hs))
           (sections_from (index + 1) (map item_of gs)) mine (sections_alike S (index + 1) hs gs a.1),
     )
+
+-- where a section has the contents of a new source, one has those of the old
+old_body : (S : ℕ → ℕ) (j : ℕ) (b c : Body) → AlikeBody S b c → c ≡ contents_of j → b ≡ contents_of (S j)
+old_body S j super c a e = let z : super ≡ contents_of j = sym a ∙ e in absurd (cc)
+old_body S j (record_of i) c a e = let z : record_of i ≡ contents_of j = sym a ∙ e in absurd (cc)
+old_body S j (table_of i) c a e = let z : table_of i ≡ contents_of j = sym a ∙ e in absurd (cc)
+old_body S j (text_of i) c a e = let z : text_of i ≡ contents_of j = sym a ∙ e in absurd (cc)
+old_body S j (contents_of k) c a e =
+    let z : contents_of a.0 ≡ contents_of j = sym a.1 ∙ e in
+    let same : a.0 ≡ j = cc in
+    ap contents_of (a.2 ∙ ap S same)
+
+pub old_section : (S : ℕ → ℕ) (start len j : ℕ) (ss ts : List Section) → AlikeSections S ss ts
+    → Has (λ z. z ≡ section start len (contents_of j)) ts → Has (λ z. z ≡ section start len (contents_of (S j))) ss
+old_section S start len j [] [] a h = absurd h
+old_section S start len j [] (t ∷ ts) a h = absurd a
+old_section S start len j (s ∷ ss) [] a h = absurd a
+old_section S start len j (s ∷ ss) (t ∷ ts) a (inl e) =
+    let p : s.place ≡ start = sym a.0.place ∙ ap (λ (z : Section). z.place) e in
+    let n : s.len ≡ len = sym a.0.len ∙ ap (λ (z : Section). z.len) e in
+    let b = old_body S j s.body t.body a.0.body (ap (λ (z : Section). z.body) e) in
+    inl (λ i. section (p i) (n i) (b i))
+old_section S start len j (s ∷ ss) (t ∷ ts) a (inr h) = inr (old_section S start len j ss ts a.1 h)
 
 -- the text of a link
 pub bytes_same : (S : ℕ → ℕ) (f g : Fill) → AlikeFill S f g → bytes_of [] g ≡ bytes_of [] f

@@ -8,7 +8,7 @@ use Rattle.formats.specs.Format.{Format}
 use Rattle.manifest_layout.specs.Format.{HasUsualTree, layout_of}
 use Rattle.manifest_layout.specs.Misfit.{HasNoMisfit, IsLeastMisfit}
 use Rattle.manifest_tree.specs.Meant.{IsMeant}
-use Rattle.rom_faults.specs.declared.fault.Fault as misfit
+use Rattle.rom_fields.specs.declared.fault.Fault as misfit
 use Rattle.rom_tree.specs.Tree.{Node}
 use Rattle.image_build.specs.Builds.{Builds, IsGiven, IsImageOf}
 use Rattle.image_build.specs.declared.error.BuildError.{BuildError}

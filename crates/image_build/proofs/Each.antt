@@ -1,28 +1,31 @@
 -- What is streamed as romfs is a layout of files with sources of their own.
 use Rattle.std.proofs.Common.{◌≡◌, ◌≢◌, ℕ, ◌+◌, ◌^◌, ◌<◌, List, [], map, length, drop, get_or, sym, ap, subst, ◌∙◌}
-use Rattle.std.proofs.Common.{arith}
+use Rattle.std.proofs.Common.{arith, refl, Some}
 use Rattle.std.specs.List.{AllByRecursion as Every}
-use Rattle.record_forest.specs.Members.{Pairs}
+use Rattle.record_forest.specs.Members.{Has, Pairs}
 use Rattle.record_forest.proofs.Lists.{pairs_map, pairs_weaker, every_join}
 use Rattle.romfs_format.specs.Record.{pad16}
 use Rattle.rom_fields.specs.Padding.{pad}
 use Rattle.manifest.specs.Grammar.{IsManifest}
 use Rattle.manifest.specs.Lines.{ManifestLines, sources_of}
 use Rattle.manifest_tree.specs.Names.{Fill, no_bytes, text, source, Inode, Names, nothing, leaf, link, subdirectory}
+use Rattle.manifest_tree.specs.Items.{contents_of, section}
 use Rattle.manifest_tree.specs.Names.{bytes_of}
+use Rattle.manifest_tree.specs.Shape.{file_under, with_names}
 use Rattle.manifest_tree.specs.Tree.{tree_of, root_of}
 use Rattle.manifest_tree.specs.Files.{files}
 use Rattle.formats.specs.Format.{romfs}
 use Rattle.manifest_layout.specs.Misfit.{HasNoMisfit}
+use Rattle.romfs_layout.specs.Items.{items_of, sections_of}
 use Rattle.romfs_layout.specs.Layout.{root_at, full_size_of, all_headers, layout}
 use Rattle.romfs_layout.specs.Wells.{IsFile, AreWell, AreLinks}
 use Rattle.romfs_layout.specs.Planned.{IsPlanned}
 use Rattle.image_stream.specs.Sources.{content_of}
 use Rattle.image_stream.specs.Segments.{image_of, checked}
 use Rattle.image_stream.specs.WordSums.{balance_of}
-use Rattle.plan_types.specs.Plans.{Planned, IsPlanOf}
-use Rattle.plan_types.proofs.Sized.{Fitting, zeros, lengths, size_is}
-use Rattle.plan_types.proofs.SourceSizes.{sizes_small}
+use Rattle.manifest_layout.specs.Plans.{Planned, IsPlanOf}
+use Rattle.manifest_layout.proofs.Sized.{Fitting, zeros, lengths, size_is}
+use Rattle.manifest_layout.proofs.SourceSizes.{sizes_small}
 use Rattle.romfs_write.specs.Form.{full_size, superblock_storing, segment_of, form_of}
 use Rattle.romfs_write.specs.Known.{IsRomfsPlan}
 use Rattle.romfs_write.proofs.Facts.{planned_by, planned_is, full_is, of_names}
@@ -34,7 +37,8 @@ use Rattle.image_build.proofs.Given.{given}
 use Rattle.image_build.proofs.InRomfs.{Apart, all_apart, sections_differ}
 use Rattle.image_build.proofs.Unknown.{once, romfs_of}
 use Rattle.image_build.proofs.Owned.{own_fill, own_file, own_names, ends_same, files_same, HasOwn, planned_owned}
-use Rattle.image_build.proofs.Alike.{all_alike, item_alike, sections_alike}
+use Rattle.image_build.proofs.Alike.{Says, all_alike, item_alike, old_section, sections_alike}
+use Rattle.image_build.proofs.Meaning.{links_held, under_held}
 use Rattle.image_build.proofs.Moved.{segments_alike, image_moved}
 use Rattle.image_build.proofs.Sizes.{top_of, spread, below_top, at_line, all_small, have_own, own_size, size_by}
 
@@ -73,10 +77,32 @@ pub record IsOfFiles (G : ℕ → List ℕ → Type 0) (volume : List ℕ) (root
   pub contents : List (List ℕ)
   pub own : Every (HasOwn contents) (files n)
   pub read : Every (HasGiven G contents) (files n)
+  pub says : Says (source_at (files n)) (files n)
   pub links : AreLinks (files n) n
   pub bare : root.fill ≡ no_bytes
   pub planned : IsPlanned volume (own_file root) (own_names n) contents
   pub is : bytes ≡ layout volume (own_file root) (own_names n) contents
+
+-- the contents of a file are where a section of the volume has those of its source
+pub source_section : (G : ℕ → List ℕ → Type 0) (volume : List ℕ) (root : Inode) (n : Names) (bytes : List ℕ)
+    → IsOfFiles G volume root n bytes → (q : List (List ℕ)) (i : Inode) (k start size : ℕ)
+    → file_under q (with_names root n) ≡ Some i → i.fill ≡ source k
+    → Has (λ z. z ≡ section start size (contents_of i.line))
+    (sections_of volume (items_of volume (own_file root) (own_names n)))
+    → Has (λ z. z ≡ section start size (contents_of k)) (sections_of volume (items_of volume root n))
+source_section G volume root n bytes f q i k start size named fill here =
+    let r = root_at volume in
+    let S = source_at (files n) in
+    let P : Inode → Type 0 = λ j. (l : ℕ) → j.fill ≡ source l → l ≡ S j.line in
+    let top : P root = λ l e. let z : no_bytes ≡ source l = sym f.bare ∙ e in absurd (cc) in
+    let all = links_held P (files n) n f.says f.says f.links in
+    let same : k ≡ S i.line = under_held P q (with_names root n) i top all named k fill in
+    let alike = sections_alike S 0 (all_headers r root n) (all_headers r (own_file root) (own_names n))
+    (all_alike S r root n f.says) in
+    subst (λ (j : ℕ). Has (λ z. z ≡ section start size (contents_of j)) (sections_of volume (items_of volume root n)))
+    (sym same) (old_section S start size i.line (sections_of volume (items_of volume root n))
+    (sections_of volume (items_of volume (own_file root) (own_names n)))
+    (record { place = refl; len = refl; body = refl }, alike) here)
 
 module _ (volume : List ℕ) (root : Inode) (n : Names) (zs : List (List ℕ)) (h : IsPlanned volume root n zs)
     (small : (file : ℕ) → get_or (map length zs) file 0 < 2 ^ 32) where
@@ -153,6 +179,7 @@ module _ (volume : List ℕ) (root : Inode) (n : Names) (zs : List (List ℕ)) (
         read = have_given G none S c.0 (files n) says (have c.0 c.1)
             (all_given (λ k. H k (content_of c.0 k)) c.0 r root n own.well
             (sections_given H c.0 new.items (drop 1 new.sections) c.3));
+        says = says;
         links = h.links;
         bare = h.directory.bytes;
         planned = own;

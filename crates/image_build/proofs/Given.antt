@@ -7,7 +7,7 @@ use Rattle.std.proofs.lemmas.Bool.Decides.{eqb_tells}
 use Rattle.std.proofs.lemmas.List.{take_all, length-map}
 use Rattle.image_stream.specs.Sources.{content_of}
 use Rattle.image_stream.specs.Segments.{Segment, fixed, content, zeros, segment_at, image_from, HasSource}
-use Rattle.plan_types.proofs.Sized.{size_is}
+use Rattle.manifest_layout.proofs.Sized.{size_is}
 use Rattle.image_build.proofs.Bodies.{IsOf}
 
 -- no segment has the contents of this file

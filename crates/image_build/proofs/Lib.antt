@@ -2,20 +2,20 @@ pub mod Answered
 pub mod Whole
 mod Filled
 mod Streams
-mod Bodies
+pub mod Bodies
 mod Given
 mod Differ
 mod InCramfs
 mod InRomfs
 mod OwnSources
 mod Unknown
-mod Owned
+pub mod Owned
 mod Alike
 mod Moved
 mod Sizes
-mod Meaning
+pub mod Meaning
 mod Found
-mod Each
-mod Accepting
+pub mod Each
+pub mod Accepting
 pub mod Placing
 mod Sealing

@@ -13,8 +13,8 @@ use Rattle.manifest_layout.specs.Placement.{CopiesStand, HasVolume, IsPlaced}
 use Rattle.manifest_layout.proofs.Placing.{files_apart, placed}
 use Rattle.image_check.specs.Checked.{HasTree}
 use Rattle.image_stream.specs.Segments.{checked}
-use Rattle.plan_types.specs.Plans.{Planned}
-use Rattle.plan_types.proofs.Sized.{Fitting}
+use Rattle.manifest_layout.specs.Plans.{Planned}
+use Rattle.manifest_layout.proofs.Sized.{Fitting}
 use Rattle.romfs_format.specs.Record.{before_zero}
 use Rattle.romfs_format.specs.Tree.{RomfsTree}
 use Rattle.romfs_layout.specs.Disjoint.{FilesAreApart}

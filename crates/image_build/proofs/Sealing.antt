@@ -5,8 +5,8 @@ use Rattle.manifest_tree.specs.Tree.{tree_of, root_of}
 use Rattle.formats.specs.Format.{Format, romfs, cramfs}
 use Rattle.manifest_layout.specs.Sealed.{HasSeal}
 use Rattle.image_stream.specs.Segments.{checked}
-use Rattle.plan_types.specs.Plans.{Planned}
-use Rattle.plan_types.proofs.Sized.{Fitting}
+use Rattle.manifest_layout.specs.Plans.{Planned}
+use Rattle.manifest_layout.proofs.Sized.{Fitting}
 use Rattle.romfs_layout.specs.Layout.{layout}
 use Rattle.romfs_layout.specs.Planned as romfs_planned
 use Rattle.romfs_layout.specs.Sealed.{IsSealed}

@@ -7,7 +7,7 @@ use Rattle.std.specs.List.{AllByRecursion as Every}
 use Rattle.record_forest.specs.Members.{Pairs}
 use Rattle.record_forest.proofs.Lists.{every_weaker, every_both}
 use Rattle.manifest_tree.specs.Names.{Fill, no_bytes, text, source, Inode}
-use Rattle.plan_types.proofs.Sized.{size_is}
+use Rattle.manifest_layout.proofs.Sized.{size_is}
 use Rattle.image_build.proofs.Owned.{HasOwn}
 
 abbrev pub size_by : Fill → ℕ → ℕ

@@ -11,7 +11,7 @@ use Rattle.image_stream.specs.Sources.{IfKnown}
 use Rattle.image_stream.specs.declared.error.StreamError.{StreamError}
 use Rattle.cramfs_format.specs.declared.order.Order.{Order}
 use Rattle.cramfs_format.specs.declared.order.Order.TheVariants.{Little, Big}
-use Rattle.plan_types.specs.Plans.{Planned, IsPlanOf}
+use Rattle.manifest_layout.specs.Plans.{Planned, IsPlanOf}
 use Rattle.manifest.specs.Grammar.{IsManifest}
 use Rattle.manifest.specs.Lines.{ManifestLines}
 use Rattle.formats.specs.Format.{Format, cramfs}

@@ -15,8 +15,8 @@ use Rattle.formats.specs.Format.{Format, romfs, cramfs}
 use Rattle.manifest_layout.specs.Format.{layout_of, sections_of}
 use Rattle.image_stream.specs.Segments.{Segment, fixed, content, Form, IsLaidOut, image_from, image_of, checked}
 use Rattle.image_stream.specs.WordSums.{balance_of}
-use Rattle.plan_types.specs.Plans.{Planned, IsPlanOf}
-use Rattle.plan_types.proofs.Sized.{Fitting, zeros, lengths}
+use Rattle.manifest_layout.specs.Plans.{Planned, IsPlanOf}
+use Rattle.manifest_layout.proofs.Sized.{Fitting, zeros, lengths}
 use Rattle.romfs_write.specs.Form as in_romfs
 use Rattle.romfs_write.proofs.Facts as romfs_facts
 use Rattle.romfs_write.proofs.Laid as romfs_laid

@@ -10,8 +10,8 @@ use Rattle.manifest_layout.specs.Misfit.{HasNoMisfit}
 use Rattle.manifest_layout.specs.Placement.{CopiesStand, HasVolume, IsPlaced}
 use Rattle.manifest_layout.specs.Sealed.{HasSeal}
 use Rattle.manifest_tree.specs.Meant.{IsMeant}
-use Rattle.rom_faults.specs.declared.error.CheckError.{CheckError}
-use Rattle.rom_faults.specs.declared.error.CheckError.TheVariants as check
+use Rattle.rom_fields.specs.declared.check_error.CheckError.{CheckError}
+use Rattle.rom_fields.specs.declared.check_error.CheckError.TheVariants as check
 use Rattle.rom_tree.specs.Tree.{Node}
 use Rattle.image_build.specs.Accepted.{usual}
 use Rattle.image_build.specs.Builds.{Builds}

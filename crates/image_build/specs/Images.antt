@@ -7,7 +7,7 @@ use Rattle.rom_fields.specs.Written.{Output}
 use Rattle.image_stream.specs.Answers.{Answer}
 use Rattle.image_stream.specs.Sources.{IfKnown, Reads}
 use Rattle.image_stream.specs.Outcomes.{IsStreamed, IsStreamFault}
-use Rattle.plan_types.specs.Plans.{Planned}
+use Rattle.manifest_layout.specs.Plans.{Planned}
 use Rattle.image_build.specs.Builds.{Builds}
 use Rattle.image_build.specs.Streamed.{IsPlanOfText, form_in, stored_in}
 use Rattle.image_build.specs.declared.image.Unwritten.{Unwritten}

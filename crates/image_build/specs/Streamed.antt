@@ -9,7 +9,7 @@ use Rattle.crc.specs.Crc.{crc_of}
 use Rattle.cramfs_write.specs.Form as in_cramfs
 use Rattle.image_stream.specs.Segments.{Form, checked}
 use Rattle.image_stream.specs.WordSums.{balance_of}
-use Rattle.plan_types.specs.Plans.{Planned, IsPlanOf}
+use Rattle.manifest_layout.specs.Plans.{Planned, IsPlanOf}
 use Rattle.manifest.specs.Grammar.{manifest_of}
 use Rattle.manifest.specs.Lines.{ManifestLines, sources_of, is_same}
 use Rattle.formats.specs.Format.{Format, romfs, cramfs}

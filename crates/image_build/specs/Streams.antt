@@ -7,7 +7,7 @@ use Rattle.image_stream.specs.Answers.{Answer}
 use Rattle.image_stream.specs.Outcomes.{AreSized, SourcesState, Streams, StreamsOnce}
 use Rattle.image_stream.specs.Sources.{IfKnown}
 use Rattle.image_stream.specs.declared.error.StreamError.{StreamError}
-use Rattle.plan_types.specs.Plans.{Planned}
+use Rattle.manifest_layout.specs.Plans.{Planned}
 use Rattle.image_build.specs.Builds.{Builds}
 use Rattle.image_build.specs.Streamed.{IsPlanOfText, form_in, stored_in}
 

@@ -9,13 +9,13 @@ ghost use Rattle.image_stream.specs.Outcomes.{state};
 ghost use Rattle.manifest.specs.Grammar.{IsManifest};
 ghost use Rattle.manifest.specs.Lines.{ManifestLines};
 ghost use Rattle.manifest_layout.specs.Format.{layout_of};
-ghost use Rattle.plan_types.specs.Plans.{IsPlanOf};
+ghost use Rattle.manifest_layout.specs.Plans.{IsPlanOf};
 
 use crate::error::BuildError;
 use image_stream::{Sources, StreamError};
 use layout_plan::plan;
 use manifest::parse;
-use plan_types::{Format, Plan};
+use manifest_layout::{Format, Plan};
 use rom_fields::{ByteWrite, Contents, OutOfMemory, Rewrite};
 use std::alloc::Global;
 

@@ -6,7 +6,7 @@ use crate::build::{stream_once, stream_through};
 use crate::padding::{Padding, write_padding};
 use atomic_file::Fill;
 use image_stream::{Sources, StreamError};
-use plan_types::Plan;
+use manifest_layout::Plan;
 use rom_fields::{ByteWrite, Failed, Rewrite};
 
 /// A check that is made after all is written, for example that no source changed.

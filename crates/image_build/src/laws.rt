@@ -20,8 +20,8 @@ ghost use Rattle.manifest_layout.specs.Format.{HasUsualTree};
 ghost use Rattle.manifest_layout.specs.Placement.{CopiesStand, HasVolume, IsPlaced};
 ghost use Rattle.manifest_layout.specs.Sealed.{HasSeal};
 ghost use Rattle.manifest_tree.specs.Meant.{IsMeant};
-ghost use Rattle.plan_types.specs.Plans.{Planned};
-ghost use Rattle.rom_faults.specs.declared.error.CheckError.{CheckError};
+ghost use Rattle.manifest_layout.specs.Plans.{Planned};
+ghost use Rattle.rom_fields.specs.declared.check_error.CheckError.{CheckError};
 ghost use Rattle.rom_tree.specs.Tree.{Node};
 
 use crate::image::LastCheck;

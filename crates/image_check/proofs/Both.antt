@@ -5,7 +5,7 @@ use Rattle.rom_tree.specs.Tree.{Node}
 use Rattle.rom_tree.specs.Image.{Image}
 use Rattle.rom_tree.specs.declared.types.Limits.{Limits}
 use Rattle.rom_tree.specs.declared.types.Report.{Report}
-use Rattle.rom_faults.specs.declared.error.CheckError.{CheckError}
+use Rattle.rom_fields.specs.declared.check_error.CheckError.{CheckError}
 use Rattle.cramfs_format.specs.declared.order.Order.{Order}
 use Rattle.cramfs_format.specs.Superblock.{order_of}
 use Rattle.cramfs_format.specs.Tree.{CramfsTree}

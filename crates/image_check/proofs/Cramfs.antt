@@ -4,9 +4,9 @@ use Rattle.rom_tree.specs.Tree.{Node, depth}
 use Rattle.rom_tree.specs.Image.{Image}
 use Rattle.rom_tree.specs.declared.types.Limits.{Limits}
 use Rattle.rom_tree.specs.declared.types.Report.{Report}
-use Rattle.rom_faults.specs.declared.fault.Fault.{Fault}
-use Rattle.rom_faults.specs.declared.error.CheckError.{CheckError}
-use Rattle.rom_faults.specs.declared.error.CheckError.TheVariants.{OutOfMemory, Fault as FaultAnswer}
+use Rattle.rom_fields.specs.declared.fault.Fault.{Fault}
+use Rattle.rom_fields.specs.declared.check_error.CheckError.{CheckError}
+use Rattle.rom_fields.specs.declared.check_error.CheckError.TheVariants.{OutOfMemory, Fault as FaultAnswer}
 use Rattle.cramfs_format.specs.declared.order.Order.{Order}
 use Rattle.cramfs_format.specs.Order.{word}
 use Rattle.cramfs_format.specs.Tree.{CramfsTree}

@@ -3,8 +3,8 @@ use Rattle.std.proofs.Common.{◌≡◌, ◌≢◌, ◌⊎◌, ℕ, subst, ◌�
 use Rattle.rom_fields.specs.Words.{word_be, word_le}
 use Rattle.rom_tree.specs.Tree.{Node}
 use Rattle.rom_tree.specs.declared.types.Limits.{Limits}
-use Rattle.rom_faults.specs.declared.error.CheckError.{CheckError}
-use Rattle.rom_faults.specs.declared.error.CheckError.TheVariants.{OutOfMemory, Fault}
+use Rattle.rom_fields.specs.declared.check_error.CheckError.{CheckError}
+use Rattle.rom_fields.specs.declared.check_error.CheckError.TheVariants.{OutOfMemory, Fault}
 use Rattle.romfs_format.specs.Tree.{RomfsTree}
 use Rattle.romfs_image.specs.Checked.{IsRefused as RomfsRefused}
 use Rattle.cramfs_image.specs.Checked.{IsRefused as CramfsRefused}

@@ -4,7 +4,7 @@ use Rattle.std.proofs.Common.{take, inl, inr, sym, ap, ap₂, subst, ◌∙◌, 
 use Rattle.std.proofs.lemmas.List.{take_min}
 use Rattle.std.proofs.lemmas.Bool.{cases_Bool, false≢true, cond-true, cond-false}
 use Rattle.std.proofs.Math.Nat.{min_comm}
-use Rattle.rom_faults.specs.declared.error.CheckError.TheVariants.{Fault}
+use Rattle.rom_fields.specs.declared.check_error.CheckError.TheVariants.{Fault}
 use Rattle.cramfs_format.specs.declared.order.Order.{Order}
 use Rattle.cramfs_format.specs.Superblock.{order_of, has_crc, size_word, accessible_size}
 use Rattle.romfs_format.specs.Tree.{full_size}

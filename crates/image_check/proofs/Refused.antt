@@ -3,8 +3,8 @@ use Rattle.std.proofs.Common.{◌≡◌, ℕ, ◌≤◌, min, List, length, take
 use Rattle.std.proofs.Common.{inl, inr}
 use Rattle.rom_tree.specs.Tree.{Node}
 use Rattle.rom_tree.specs.declared.types.Limits.{Limits}
-use Rattle.rom_faults.specs.FaultNumbers.{SUM}
-use Rattle.rom_faults.specs.declared.error.CheckError.TheVariants.{Fault}
+use Rattle.rom_fields.specs.FaultNumbers.{SUM}
+use Rattle.rom_fields.specs.declared.check_error.CheckError.TheVariants.{Fault}
 use Rattle.rom_fields.specs.Words.{words_sum}
 use Rattle.romfs_format.specs.Superblock.{accessible, HasSum, bad_sum}
 use Rattle.romfs_format.specs.Faults.{whole}

@@ -4,10 +4,10 @@ use Rattle.rom_tree.specs.Tree.{Node, depth}
 use Rattle.rom_tree.specs.Image.{Image}
 use Rattle.rom_tree.specs.declared.types.Limits.{Limits}
 use Rattle.rom_tree.specs.declared.types.Report.{Report}
-use Rattle.rom_faults.specs.declared.fault.Fault.{Fault}
-use Rattle.rom_faults.specs.declared.fault.TheConstants.{ROOT}
-use Rattle.rom_faults.specs.declared.error.CheckError.{CheckError}
-use Rattle.rom_faults.specs.declared.error.CheckError.TheVariants.{OutOfMemory, Fault as FaultAnswer}
+use Rattle.rom_fields.specs.declared.fault.Fault.{Fault}
+use Rattle.rom_fields.specs.declared.fault.TheConstants.{ROOT}
+use Rattle.rom_fields.specs.declared.check_error.CheckError.{CheckError}
+use Rattle.rom_fields.specs.declared.check_error.CheckError.TheVariants.{OutOfMemory, Fault as FaultAnswer}
 use Rattle.romfs_format.specs.Record.{type_of}
 use Rattle.romfs_format.specs.Tree.{IsSuperblock, RomfsTree, root_of}
 use Rattle.romfs_format.specs.Superblock.{HasImageFault, accessible, HasSize, HasSum, HasRoot, short, no_magic}

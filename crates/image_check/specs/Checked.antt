@@ -9,8 +9,8 @@ use Rattle.rom_tree.specs.Tree.{Node}
 use Rattle.rom_tree.specs.Image.{Image}
 use Rattle.rom_tree.specs.declared.types.Limits.{Limits}
 use Rattle.rom_tree.specs.declared.types.Report.{Report}
-use Rattle.rom_faults.specs.declared.error.CheckError.{CheckError}
-use Rattle.rom_faults.specs.declared.error.CheckError.TheVariants.{Fault}
+use Rattle.rom_fields.specs.declared.check_error.CheckError.{CheckError}
+use Rattle.rom_fields.specs.declared.check_error.CheckError.TheVariants.{Fault}
 use Rattle.rom_tree.specs.Checks.{Refuses}
 use Rattle.romfs_format.specs.Tree.{RomfsTree}
 use Rattle.romfs_format.specs.Faults.{HasNoFault as HasNoRomfsFault}

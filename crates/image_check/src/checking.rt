@@ -9,8 +9,8 @@ ghost use Rattle.image_check.specs.Checked.{IsFaultless, IsLeastFaultUnder, neit
 use crate::any::AnyImage;
 use cramfs_image::Cramfs;
 use formats::Format;
-use rom_faults::CheckError;
-use rom_faults::fault::{MAGIC, SHORT};
+use rom_fields::CheckError;
+use rom_fields::fault::{MAGIC, SHORT};
 use rom_tree::Limits;
 use romfs_image::Romfs;
 use std::alloc::Global;

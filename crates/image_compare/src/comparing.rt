@@ -5,7 +5,7 @@ use crate::contents::is_same;
 
 /// Returns the first index at which the bytes of two slices differ, or at which exactly one of them
 /// has ended. Returns `None` if they are equal.
-pub fn first_difference(a: &[u8], b: &[u8]) -> Option<usize>
+pub(crate) fn first_difference(a: &[u8], b: &[u8]) -> Option<usize>
     ensures { IsFirstDifference a.now b.now result }
 {
     if is_same(a, b) {

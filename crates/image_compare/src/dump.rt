@@ -66,7 +66,7 @@ pub fn compare<R: Read>(image: &[u8], dump: &mut R) -> io::Result<Option<usize>>
 /// # Errors
 ///
 /// Those of the reader.
-pub fn pass_over<R: Read>(dump: &mut R, count: u64) -> io::Result<()>
+pub(crate) fn pass_over<R: Read>(dump: &mut R, count: u64) -> io::Result<()>
     ensures { OnOk result (Passes (R.remaining dump.old) (R.remaining dump.new) count) }
 {
     let mut part = [0; PART];

@@ -9,7 +9,7 @@ use sha2::{Digest, Sha256};
 
 /// Computes the SHA-256 of the bytes of a regular file, or of a link's text. It hashes each run
 /// where it is in the image. Other nodes have no bytes.
-pub fn file_digest<'a, T: TreeImage<'a>>(image: &T, node: NodeId) -> [u8; 32]
+pub(crate) fn file_digest<'a, T: TreeImage<'a>>(image: &T, node: NodeId) -> [u8; 32]
     requires { HasNode (T.image image.now) node.0 }
     ensures { (x : Node) → image_node (T.image image.now) node.0 ≡ Some x
         → result ≡ sha256 (contents_of (T.image image.now).bytes x) }

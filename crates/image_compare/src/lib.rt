@@ -20,13 +20,12 @@
 //!   exactly if the mode, the owner, the group or the numbers of a device differ, `c` exactly if
 //!   the bytes differ, and `@` exactly if offsets are compared and the first bytes are at different
 //!   offsets.
-//! - `write_digests`, `file_digest`: the digests have exactly a line for each name of a regular
+//! - `write_digests`: the digests have exactly a line for each name of a regular
 //!   file, in the order of the list, with the SHA-256 of its bytes, read run by run. If a write
 //!   fails or a path is too long, a prefix is written.
 //! - `write_image_digest`: the digest of an image has the SHA-256 of its bytes, or a prefix is
 //!   written if a write fails.
-//! - `first_difference`: two slices differ first at the reported index, or nowhere.
-//! - `compare`, `pass_over`, `write_verdict`: the bytes of a reader begin with the image, or the
+//! - `compare`, `write_verdict`: the bytes of a reader begin with the image, or the
 //!   first byte that is not the image's is reported.
 //! - `find_holder`: the first file, in the order of the list, that has this byte, or that none has
 //!   it.
@@ -50,10 +49,8 @@ mod rows;
 mod same;
 mod steps;
 
-pub use comparing::first_difference;
 pub use difference::{DiffError, write_diff};
 pub use digests::{DigestError, write_digests};
-pub use dump::{Dump, compare, compare_from, pass_over, write_verdict};
-pub use hashing::file_digest;
+pub use dump::{Dump, compare, compare_from, write_verdict};
 pub use holder::find_holder;
 pub use line::write_image_digest;

@@ -26,8 +26,8 @@ use Rattle.manifest_layout.proofs.Plain.{good_text}
 use Rattle.manifest_layout.proofs.Sectioned.{planned}
 use Rattle.formats.specs.declared.format.Format as code_format
 use Rattle.formats.specs.declared.format.Format.TheVariants as format
-use Rattle.plan_types.specs.declared.laid.Laid.{Laid}
-use Rattle.plan_types.specs.Views.{item_view}
+use Rattle.manifest_layout.specs.declared.laid.Laid.{Laid}
+use Rattle.manifest_layout.specs.Views.{item_view}
 use Rattle.std.specs.Option.{option_map}
 use Rattle.plan_rows.specs.declared.misfit.Misfit.{Misfit}
 use Rattle.plan_rows.specs.Misfits.{misfit_fault}

@@ -10,11 +10,11 @@ ghost use Rattle.manifest_layout.specs.Format.{items_of, sections_of, len_of};
 ghost use Rattle.manifest_layout.specs.Misfit.{HasWholeMisfit, HasNoMisfit};
 ghost use Rattle.plan_rows.specs.Rows.{inode_view, row_view};
 ghost use Rattle.formats.specs.Format.{format_of};
-ghost use Rattle.plan_types.specs.Views.{item_view, section_view};
+ghost use Rattle.manifest_layout.specs.Views.{item_view, section_view};
 
 use cramfs_format::Order;
+use manifest_layout::{Format, Item, Laid, Section};
 use plan_rows::{Inode, Row};
-use plan_types::{Format, Item, Laid, Section};
 use rom_fields::OutOfMemory;
 use std::alloc::Global;
 

@@ -1,6 +1,6 @@
 //! The plan of an image, from a manifest and the sizes of its sources: nothing is written, and no
-//! content is read. `manifest_layout` defines misfits and layouts, and `plan_types` the plan. The
-//! crate re-exports `Sources` and `Slices`.
+//! content is read. `manifest_layout` defines misfits, layouts and plans. The crate re-exports
+//! `Sources` and `Slices`.
 //!
 //! Proved:
 //!
@@ -20,6 +20,6 @@ mod planning;
 
 pub use error::{PlanError, name};
 pub use image_stream::{Slices, SourceFailed, Sources};
+pub use manifest_layout::{Body, Fill, Format, Item, Plan, Section};
 pub use plan_rows::Misfit;
-pub use plan_types::{Body, Fill, Format, Item, Plan, Section};
 pub use planning::{misfits, plan};

@@ -4,14 +4,14 @@ ghost use Rattle.layout_plan.specs.Refusals.{IsRefusal};
 ghost use Rattle.manifest.specs.Lines.{sources_of};
 ghost use Rattle.formats.specs.Format.{format_of};
 ghost use Rattle.plan_rows.specs.Misfits.{misfit_fault, misfits_of};
-ghost use Rattle.plan_types.specs.Plans.{IsPlanOf};
+ghost use Rattle.manifest_layout.specs.Plans.{IsPlanOf};
 
 use crate::error::PlanError;
 use crate::laid::{place, sections};
 use manifest::{Manifest, Name};
+use manifest_layout::{Format, Plan};
 use plan_rows::misfit::TOO_LARGE;
 use plan_rows::{Misfit, PathTargets, least_of_lines, root, rows};
-use plan_types::{Format, Plan};
 use rom_fields::OutOfMemory;
 use std::alloc::Global;
 

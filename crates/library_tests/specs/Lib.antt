@@ -1,3 +1,4 @@
 pub mod Sample
 pub mod SampleLaws
 pub mod Kept
+pub mod Fixed

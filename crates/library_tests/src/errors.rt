@@ -3,7 +3,7 @@ use image_build::{BuildError, PlanError, StreamError};
 use manifest::ManifestError;
 use open_files::CallError;
 use path_walk::WalkError;
-use rom_faults::CheckError;
+use rom_fields::CheckError;
 use rom_serve::ServeError;
 use rom_tree::ListError;
 use std::alloc::{AllocError, Global};

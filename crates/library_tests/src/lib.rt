@@ -15,6 +15,7 @@
 
 mod cached;
 mod checked;
+mod composed;
 mod dumps;
 mod elf;
 mod errors;
@@ -27,6 +28,7 @@ mod kept;
 mod late;
 mod layers;
 mod limits;
+mod linked;
 mod lister;
 mod lists;
 mod made;

@@ -2,7 +2,7 @@
 use Rattle.std.proofs.Common.{◌≡◌, ℕ, zero, suc, List, [], ◌∷◌, ◌++◌, replicate, refl, subst, codes, Option, Some, None}
 use Rattle.std.proofs.Common.{Result, Ok, Err}
 use Rattle.percent_encoding.specs.Percent.{percent_decode}
-use Rattle.rom_faults.specs.declared.fault.Fault.{Fault}
+use Rattle.rom_fields.specs.declared.fault.Fault.{Fault}
 use Rattle.manifest.specs.Texts.{octal, decimal}
 use Rattle.manifest.specs.Paths.{names_of, is_bad_name}
 use Rattle.manifest.specs.Lines.{ManifestLines}

@@ -6,7 +6,7 @@ use Rattle.std.specs.Cmp.Lexicographic.{bytes_decides}
 use Rattle.std.specs.List.{AllByRecursion as Every}
 use Rattle.std.specs.Option.{option_map}
 use Rattle.std.specs.Str.{bytes_eq}
-use Rattle.rom_faults.specs.declared.fault.Fault.{Fault}
+use Rattle.rom_fields.specs.declared.fault.Fault.{Fault}
 use Rattle.record_forest.specs.Faults.{IsNone}
 use Rattle.record_forest.specs.Members.{Has, Pairs}
 use Rattle.record_forest.proofs.Lists.{every_weaker, every_of, every_left, every_right, has_every, has_weaker}

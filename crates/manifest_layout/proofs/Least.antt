@@ -1,6 +1,6 @@
 -- There is no more than one least misfit, and none if there is no misfit.
 use Rattle.std.proofs.Common.{◌≡◌, ℕ, List, sym, ap, ◌∙◌, arith, inl, inr}
-use Rattle.rom_faults.specs.declared.fault.Fault.{Fault}
+use Rattle.rom_fields.specs.declared.fault.Fault.{Fault}
 use Rattle.record_forest.specs.Faults.{NotAfter}
 use Rattle.manifest.specs.Lines.{ManifestLines}
 use Rattle.formats.specs.Format.{Format}

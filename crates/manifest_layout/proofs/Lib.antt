@@ -19,3 +19,7 @@ pub mod Sectioned
 mod Examples
 mod Stands
 pub mod Placing
+mod Places
+pub mod Indexed
+pub mod Sized
+pub mod SourceSizes

@@ -5,3 +5,5 @@ pub mod Tests
 pub mod Placement
 pub mod Sealed
 pub mod Compact
+pub mod Plans
+pub mod Views

@@ -5,7 +5,7 @@
 -- references and 64 names are this project's.)
 use Rattle.std.specs.Prelude.{◌≡◌, ◌≢◌, ℕ, ◌^◌, ◌<◌, ◌≤◌, ◌⊎◌, false, true, List, [], ◌∷◌, length}
 use Rattle.std.specs.Prelude.{Option, Some, None}
-use Rattle.rom_faults.specs.declared.fault.Fault.{Fault}
+use Rattle.rom_fields.specs.declared.fault.Fault.{Fault}
 use Rattle.record_forest.specs.Faults.{IsLeastFault, IsNone}
 use Rattle.record_forest.specs.Members.{Has}
 use Rattle.manifest.specs.declared.line.Line.{Line}

@@ -4,7 +4,7 @@
 -- project's own.)
 use Rattle.std.specs.Prelude.{ℕ, ◌^◌, ◌==◌, ◌||◌, nat_lt, not, Bool, true, false, List, [], ◌∷◌}
 use Rattle.std.specs.Prelude.{Option, Some, None}
-use Rattle.rom_faults.specs.declared.fault.Fault.{Fault}
+use Rattle.rom_fields.specs.declared.fault.Fault.{Fault}
 use Rattle.record_forest.specs.Lesser.{lesser_of_both}
 use Rattle.manifest.specs.declared.line.Line.{Line}
 use Rattle.manifest.specs.Lines.{ManifestLines, is_hard}

@@ -12,7 +12,7 @@ ghost use Rattle.manifest_layout.specs.Misfit.{IsLeastMisfit, HasNoMisfit};
 ghost use Rattle.manifest_layout.specs.Placement.{CopiesStand, HasVolume, IsPlaced};
 ghost use Rattle.manifest_layout.specs.Sealed.{HasSeal};
 ghost use Rattle.manifest_tree.specs.Meant.{IsMeant};
-ghost use Rattle.rom_faults.specs.declared.fault.Fault.{Fault};
+ghost use Rattle.rom_fields.specs.declared.fault.Fault.{Fault};
 ghost use Rattle.rom_tree.specs.Tree.{Node};
 
 /// Shows that a manifest either fits or has exactly one least misfit.

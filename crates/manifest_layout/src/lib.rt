@@ -1,10 +1,12 @@
-//! Definitions and laws: the misfits of a manifest in a format, and the layout of a manifest that
-//! fits.
+//! The misfits of a manifest in a format, the layout of a manifest that fits, and a planned image
+//! as values of the code: its format, items and sections, and `Plan`, which is the plan of some
+//! manifest that fits.
 //!
 //! `specs/Misfit.antt` has the misfits of lines and of the whole, the least line first, and there
 //! the least number. `specs/Format.antt` has the formats with the items, the sections and the bytes
 //! of a manifest's layout. `specs/Sealed.antt` says what a superblock states, and
-//! `specs/Compact.antt` how much room is between sections.
+//! `specs/Compact.antt` how much room is between sections. `specs/Views.antt` maps the values of
+//! the code to items and sections, and `specs/Plans.antt` has the conditions on a plan.
 //!
 //! Proved:
 //!
@@ -20,6 +22,19 @@
 //!   (by `file`, `same` or `hard`) is one run at a multiple of that line's ALIGN, and the volume
 //!   has the manifest's name. In cramfs all files of one `file` line have the same offsets; in
 //!   romfs files of different lines none in common, even if one is a copy.
+//! - `Plan` as `Model`, `Plan::{new, format, volume, image_len, items, section, sections, sizes}`:
+//!   a plan is the plan of some manifest that fits; its calls return the format, the volume, the
+//!   length, the items, the sections and the sizes from which it was made.
 #![tactic(auto)]
 
+mod item;
+mod laid;
 pub mod laws;
+mod planned;
+mod section;
+
+pub use formats::Format;
+pub use item::{Fill, Item};
+pub use laid::Laid;
+pub use planned::Plan;
+pub use section::{Body, Section};

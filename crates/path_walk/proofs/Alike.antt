@@ -1,7 +1,7 @@
 -- Paths lead alike in two namespaces if the places of the one are seen among those of the other.
 use Rattle.std.proofs.Common.{◌≡◌, ℕ, zero, suc, ◌+◌, ◌≤◌, Bool, true, false, List, [], ◌∷◌, ◌++◌, length, map, Option}
 use Rattle.std.proofs.Common.{Some, None, Result, Ok, Err, refl, sym, ap, ◌∙◌, nat_lt, arith}
-use Rattle.std.specs.Prelude.{option_map, not, ◌&&◌, if◌then◌else◌}
+use Rattle.std.specs.Prelude.{option_map, MatchResult, not, ◌&&◌, if◌then◌else◌}
 use Rattle.std.specs.Str.{bytes_eq}
 use Rattle.rom_tree.specs.Dots.{dot, dot_dot}
 use Rattle.rom_tree.specs.Tree.{Node, is_link, is_directory, entries_of, levels}
@@ -14,10 +14,13 @@ use Rattle.path_walk.specs.Resolution.{Namespace, tree_namespace, Trail, Step, f
 use Rattle.path_walk.specs.Resolution.{root_of, to_root, enter, found, step, link_text_at, after_link, onward, resolve}
 use Rattle.path_walk.specs.Resolution.{resolution}
 use Rattle.path_walk.specs.Graft.{MountedNode, graft, shown, are_mounts, AreShallow}
-use Rattle.path_walk.specs.Trails.{NamesAt}
+use Rattle.path_walk.specs.Trails.{NamesAt, IsFoundWithin}
+use Rattle.path_walk.specs.declared.budget.Purse.{Purse}
+use Rattle.path_walk.specs.declared.budget.Purse.TheVariants.{Unlimited, Limited}
 use Rattle.path_walk.specs.declared.error.WithinError.{WithinError}
 use Rattle.path_walk.specs.declared.error.WithinError.TheVariants.{Path, TooManyNames}
 use Rattle.path_walk.specs.Compared.{onward_compared, compared_at, compared_by, names_compared, IsRefusedBy}
+use Rattle.path_walk.specs.Compared.{AreTaken, AreTakenFrom, Leaves, names_left}
 use Rattle.path_walk.proofs.GraftNodes.{one_node}
 
 module _ {F G : Type 0} (a : Namespace F) (b : Namespace G) (h : F → G) where
@@ -221,14 +224,30 @@ pub one_err : (m : Image) (e : WalkError) (path : List ℕ) (follow : Bool)
 one_err m e path follow k = err_by (tree_namespace m.bytes m.tree) (graft (m ∷ []) []) alone
     (resolution (tree_namespace m.bytes m.tree) path follow) e (sym (walk_alone m path follow) ∙ k)
 
--- the same for a walk with a budget
-pub refused_alone : (m : Image) (e : WithinError) (path : List ℕ) (follow : Bool)
-    → IsRefusedBy (resolution (graft (m ∷ []) []) path follow) e
-    → IsRefusedBy (resolution (tree_namespace m.bytes m.tree) path follow) e
-refused_alone m (Path e) path follow k = one_err m e path follow k
-refused_alone m TooManyNames path follow k = tt
-
-pub names_alone : (m : Image) (path : List ℕ) (follow : Bool)
+names_alone : (m : Image) (path : List ℕ) (follow : Bool)
     → names_compared (graft (m ∷ []) []) path follow ≡ names_compared (tree_namespace m.bytes m.tree) path follow
 names_alone m path follow = names_lift (tree_namespace m.bytes m.tree) (graft (m ∷ []) []) alone (λ x. refl) (λ x. refl)
     (λ x n. shown_alone m (find_entry (entries_of x) n)) refl path follow
+
+-- the same of a walk with a budget
+pub refused_alone : (m : Image) (old new : Purse) (e : WithinError) (path : List ℕ) (follow : Bool)
+    → IsFoundWithin (m ∷ []) [] path follow old new (Err e)
+    → IsRefusedBy (resolution (tree_namespace m.bytes m.tree) path follow) e
+refused_alone m old new (Path e) path follow k = one_err m e path follow k.0
+refused_alone m old new TooManyNames path follow k = tt
+
+-- and what is left of a budget that was put into a purse
+left_of : (b l n k : ℕ) (p : Purse) → l ≡ names_left p → n ≡ k → AreTakenFrom (Limited b) p n → AreTaken b l k
+left_of b l n k Unlimited q w t = absurd (cc)
+left_of b l n k (Limited v) q w t =
+    let e : v + n ≡ b = ap names_left t in omega (arith, e, q, w)
+
+pub left_alone : (m : Image) (b l : ℕ) (p : Purse) (path : List ℕ) (follow : Bool) (r : Result Location WithinError)
+    → l ≡ names_left p → IsFoundWithin (m ∷ []) [] path follow (Limited b) p r
+    → MatchResult r (λ v. AreTaken b l (names_compared (tree_namespace m.bytes m.tree) path follow))
+    (Leaves b l (names_compared (tree_namespace m.bytes m.tree) path follow))
+left_alone m b l p path follow (Ok v) q k = left_of b l _ _ p q (names_alone m path follow) k.1
+left_alone m b l p path follow (Err (Path e)) q k = left_of b l _ _ p q (names_alone m path follow) k.1
+left_alone m b l p path follow (Err TooManyNames) q k =
+    let e : b ≡ k.0 = ap names_left k.1 in
+    (q ∙ ap names_left k.2, omega (arith, e, names_alone m path follow, k.3))

@@ -8,12 +8,14 @@ use Rattle.std.specs.Str.{bytes_eq}
 use Rattle.rom_tree.specs.Dots.{dot, dot_dot}
 use Rattle.rom_tree.specs.Tree.{Node, Entries, is_directory, entries_of, entry_at, drop_entries}
 use Rattle.rom_tree.proofs.Nodes.{drop_entries-some, drop_entries-none}
+use Rattle.path_walk.specs.declared.budget.Purse.{Purse}
+use Rattle.path_walk.specs.declared.budget.Purse.TheVariants.{Unlimited, Limited}
 use Rattle.path_walk.specs.declared.error.WalkError.{WalkError}
 use Rattle.path_walk.specs.Components.{is_empty, components, begins_with_slash}
 use Rattle.path_walk.specs.Resolution.{Namespace, Trail, fails, goes, follows, step, after_link, link_text_at, at_root}
 use Rattle.path_walk.specs.Trails.{unread_components, NoneEmpty}
 use Rattle.path_walk.specs.Compared.{entries_until, is_looked_up, compared_at, onward_compared, compared_by}
-use Rattle.path_walk.specs.Compared.{names_compared}
+use Rattle.path_walk.specs.Compared.{names_compared, with_more, AreTakenFrom, AreTooManyFor}
 use Rattle.path_walk.proofs.Mounts.{and_left}
 use Rattle.path_walk.proofs.Resolving.{unread-push}
 use Rattle.path_walk.proofs.Texts.{unread-empty}
@@ -206,3 +208,19 @@ module _ {F : Type 0} (g : Namespace F) (follow : Bool) (n : ℕ) (s : Trail F) 
 pub names_end : {F : Type 0} (g : Namespace F) (follow : Bool) (n : ℕ) (s : Trail F) (us : List (Bor (List ℕ)))
     → unread_components us ≡ [] → compared_by g follow n s (unread_components us) ≡ 0
 names_end g follow n s us q = ap (compared_by g follow n s) q ∙ compared-nil g follow n s
+
+-- names that are taken from a purse, and those after them
+pub none_taken : (p : Purse) → AreTakenFrom p p 0
+none_taken Unlimited = refl
+none_taken (Limited b) = ap Limited (omega arith)
+
+more_sum : (p : Purse) (k n all : ℕ) → k + n ≡ all → with_more p all ≡ with_more (with_more p k) n
+more_sum Unlimited k n all e = refl
+more_sum (Limited b) k n all e = ap Limited (omega (arith, e))
+
+module _ {old p : Purse} (new : Purse) (n k all : ℕ) (t : AreTakenFrom old p n) where
+  pub taken_after : AreTakenFrom p new k → k + n ≡ all → AreTakenFrom old new all
+  taken_after u e = more_sum new k n all e ∙ (ap (λ (v : Purse). with_more v n) u ∙ t)
+
+  pub too_many_after : AreTooManyFor p new k → k + n ≤ all → AreTooManyFor old new all
+  too_many_after m l = (m.0 + n, sym t ∙ ap (λ (v : Purse). with_more v n) m.1, m.2, omega (arith, l, m.3))

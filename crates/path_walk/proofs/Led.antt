@@ -32,8 +32,8 @@ module _ (k h : Held) (e : k ≡ h) (us : List Mount) (current : Location) (ance
       → Type 0 = λ v. Known k (Ok v) in led (Ok (Some x)) i (subst known q f)
 
 -- what a place names in the images as they were, it names in them as they are
-pub named_there : (k h : Held) → k ≡ h → (p : Location) (s : MountedNode) → NamesAt h.images p s → NamesAt k.images p s
-named_there k h e p s n = let named : Held → Type 0 = λ v. NamesAt v.images p s in subst named (sym e) n
+pub named_there : {k h : Held} → k ≡ h → (p : Location) {s : MountedNode} → NamesAt h.images p s → NamesAt k.images p s
+named_there e p {s} n = let named : Held → Type 0 = λ v. NamesAt v.images p s in subst named (sym e) n
 
 -- the text that was read at a link
 pub link_read : (k h : Held) → k ≡ h → (p : Location) (x : MountedNode) (text : List ℕ) → NamesAt h.images p x

@@ -1,7 +1,7 @@
 -- A walk may have a budget of names, and then compares no more names than that. `names_compared`:
 -- the number of names that a look-up of a path compares. `IsRefusedBy`: the error of a walk with a
--- budget. `AreTaken`, `AreTooMany`, `Leaves`: what a walk leaves of its budget. (This project's
--- own.)
+-- budget. `AreTaken`, `AreTooMany`, `Leaves`: what a walk leaves of its budget. `AreTakenFrom`,
+-- `AreTooManyFor`: the same of a purse, which holds a budget or is unlimited. (This project's own.)
 --
 -- A component that is looked up in a directory is compared with the names of the directory's
 -- entries, in their order, up to the one that is equal, or with all of them. Dot, dot-dot, and a
@@ -13,6 +13,8 @@ use Rattle.std.specs.Str.{bytes_eq}
 use Rattle.rom_tree.specs.Dots.{dot, dot_dot}
 use Rattle.rom_tree.specs.Tree.{Node, Entries, no_entries, entry, is_directory, entries_of}
 use Rattle.path_walk.specs.declared.error.WalkError.{WalkError}
+use Rattle.path_walk.specs.declared.budget.Purse.{Purse}
+use Rattle.path_walk.specs.declared.budget.Purse.TheVariants.{Unlimited, Limited}
 use Rattle.path_walk.specs.declared.error.WithinError.{WithinError}
 use Rattle.path_walk.specs.declared.error.WithinError.TheVariants.{Path, TooManyNames}
 use Rattle.path_walk.specs.Components.{is_empty, begins_with_slash, components}
@@ -79,3 +81,18 @@ AreTooMany old new n = (new ≡ 0) × (old < n)
 abbrev pub Leaves : ℕ → ℕ → ℕ → WithinError → Type 0
 Leaves old new n (Path e) = AreTaken old new n
 Leaves old new n TooManyNames = AreTooMany old new n
+
+-- The same of a purse. From an unlimited one nothing is taken, and there are never too many names.
+abbrev pub names_left : Purse → ℕ
+names_left Unlimited = 0
+names_left (Limited n) = n
+
+abbrev pub with_more : Purse → ℕ → Purse
+with_more Unlimited n = Unlimited
+with_more (Limited v) n = Limited (v + n)
+
+abbrev pub AreTakenFrom : Purse → Purse → ℕ → Type 0
+AreTakenFrom old new n = with_more new n ≡ old
+
+abbrev pub AreTooManyFor : Purse → Purse → ℕ → Type 0
+AreTooManyFor old new n = (b : ℕ) × (old ≡ Limited b) × (new ≡ Limited 0) × (b < n)

@@ -1,18 +1,22 @@
 -- The meaning of a walk's variables: places, their stack, and the texts that are still to be read.
 -- `IsTrail`: a place and a stack of places are a trail in the graft. `Leads`, `IsFound`: the result
--- of one component, and of a path. (This project's own.)
+-- of one component, and of a path; `IsFoundWithin`: of a path with a purse. (This project's own.)
 use Rattle.std.specs.Prelude.{◌≡◌, ℕ, suc, ◌+◌, ◌*◌, ◌≤◌, ◌<◌, Bool, true, List, [], ◌∷◌, ◌++◌}
 use Rattle.std.specs.Prelude.{length, Option, Some, None, Result, Ok, Err, MatchResult}
 use Rattle.std.specs.Borrow.{Bor}
 use base.Fml.{GName}
 use Rattle.rom_tree.specs.Tree.{Node, levels, is_link}
 use Rattle.rom_tree.specs.Image.{Image}
+use Rattle.path_walk.specs.declared.budget.Purse.{Purse}
 use Rattle.path_walk.specs.declared.error.WalkError.{WalkError}
+use Rattle.path_walk.specs.declared.error.WithinError.{WithinError}
+use Rattle.path_walk.specs.declared.error.WithinError.TheVariants.{Path, TooManyNames}
 use Rattle.path_walk.specs.declared.mount.Mount.{Mount}
 use Rattle.path_walk.specs.declared.mount.Location.{Location}
 use Rattle.path_walk.specs.Components.{components}
 use Rattle.path_walk.specs.Resolution.{Trail, Step, fails, goes, follows, root_of, resolution}
 use Rattle.path_walk.specs.Graft.{MountedNode, Names, graft}
+use Rattle.path_walk.specs.Compared.{names_compared, AreTakenFrom, AreTooManyFor}
 
 -- images, and the reference through which they are reached
 pub record Held : Type 0 where
@@ -79,6 +83,18 @@ abbrev pub IsFound : List Image → List Mount → List ℕ → Bool → Result 
 IsFound ms us path follow r = MatchResult r
     (λ p. (s : MountedNode) × (resolution (graft ms us) path follow ≡ Ok s) × NamesAt ms p s)
     (λ e. resolution (graft ms us) path follow ≡ Err e)
+
+-- the same of a walk with a purse, and what it leaves in the purse
+abbrev pub IsFoundWithin : List Image → List Mount → List ℕ → Bool → Purse → Purse
+    → Result Location WithinError → Type 0
+IsFoundWithin ms us path follow old new (Ok p) =
+    IsFound ms us path follow (Ok p)
+    × AreTakenFrom old new (names_compared (graft ms us) path follow)
+IsFoundWithin ms us path follow old new (Err (Path e)) =
+    IsFound ms us path follow (Err e)
+    × AreTakenFrom old new (names_compared (graft ms us) path follow)
+IsFoundWithin ms us path follow old new (Err TooManyNames) =
+    AreTooManyFor old new (names_compared (graft ms us) path follow)
 
 -- the components of all texts that are still to be read, those of the last text first
 unfoldable pub unread_components : List (Bor (List ℕ)) → List (List ℕ)

@@ -6,9 +6,9 @@ ghost use Rattle.rom_tree.specs.Tree.{Node, ino_of, is_directory, is_link, entri
 ghost use Rattle.rom_tree.specs.Image.{find_entry, contents_of};
 ghost use Rattle.path_walk.specs.Graft.{MountedNode, tree_in, bytes_in};
 ghost use Rattle.path_walk.specs.Trails.{Held, NamesAt, HasNodeAt};
-ghost use Rattle.path_walk.specs.Compared.{compared_at, AreTaken, AreTooMany};
+ghost use Rattle.path_walk.specs.Compared.{compared_at, AreTakenFrom, AreTooManyFor};
 
-use crate::budget::take_names;
+use crate::budget::{Purse, take_names};
 use crate::mount::Location;
 use rom_tree::{NodeId, TreeImage, Viewed, is_directory_at, is_link_at, link_text};
 
@@ -53,16 +53,16 @@ pub(crate) trait Images<'a>: Gathered {
             (λ n. (y : Node) × (find_entry (entries_of s.node) name.now ≡ Some y)
             × (ino_of y ≡ n.0)) };
 
-    /// Takes from a budget the names with which a component is compared at a place, and returns
+    /// Takes from a purse the names with which a component is compared at a place, and returns
     /// whether there were as many. If not, nothing is left.
-    fn take_names_in(&self, place: Location, component: &[u8], budget: &mut u64) -> bool
+    fn take_names_in(&self, place: Location, component: &[u8], purse: &mut Purse) -> bool
         requires { HasNodeAt (Self.held self.now).images place (λ x. Unit {0}) }
         ensures taken { OnTrue result ((s : MountedNode)
             → NamesAt (Self.held self.now).images place s
-            → AreTaken budget.old budget.new (compared_at s.node component.now)) }
+            → AreTakenFrom purse.old purse.new (compared_at s.node component.now)) }
         ensures too_many { OnFalse result ((s : MountedNode)
             → NamesAt (Self.held self.now).images place s
-            → AreTooMany budget.old budget.new (compared_at s.node component.now)) };
+            → AreTooManyFor purse.old purse.new (compared_at s.node component.now)) };
 }
 
 /// One image, of number 0.
@@ -96,8 +96,8 @@ impl<'s, 'a, T: TreeImage<'a>> Images<'a> for One<'s, T> {
         self.image.lookup(place.node, name)
     }
 
-    fn take_names_in(&self, place: Location, component: &[u8], budget: &mut u64) -> bool {
-        take_names(&*self.image, place.node, component, budget)
+    fn take_names_in(&self, place: Location, component: &[u8], purse: &mut Purse) -> bool {
+        take_names(&*self.image, place.node, component, purse)
     }
 }
 
@@ -136,8 +136,8 @@ impl<'s, 'a, T: TreeImage<'a>> Images<'a> for Several<'s, T> {
         self.images[place.image as usize].lookup(place.node, name)
     }
 
-    fn take_names_in(&self, place: Location, component: &[u8], budget: &mut u64) -> bool {
+    fn take_names_in(&self, place: Location, component: &[u8], purse: &mut Purse) -> bool {
         let images = &*self.images;
-        take_names(&images[place.image as usize], place.node, component, budget)
+        take_names(&images[place.image as usize], place.node, component, purse)
     }
 }

@@ -8,11 +8,12 @@ ghost use Rattle.path_walk.specs.Resolution.{Namespace, at_root, resolution, res
 ghost use Rattle.path_walk.specs.Resolution.{tree_namespace};
 ghost use Rattle.path_walk.specs.Graft.{MountedNode, Names, graft, are_mounts, AreShallow};
 ghost use Rattle.path_walk.specs.Graft.{IsUncovered};
-ghost use Rattle.path_walk.specs.Trails.{IsFound};
+ghost use Rattle.path_walk.specs.Trails.{IsFound, IsFoundWithin};
 ghost use Rattle.path_walk.specs.Compared.{compared_by, names_compared};
 
+use crate::budget::Purse;
 use crate::component::take_component;
-use crate::error::WalkError;
+use crate::error::{WalkError, WithinError};
 use crate::images::{Images, One, Several};
 use crate::mount::{Location, Mount};
 use crate::step::{advance, is_absolute, last_stays, start_from};
@@ -21,7 +22,7 @@ use rom_tree::{NodeId, TreeImage};
 
 const PATH_MAX: usize = 4095;
 
-pub(crate) const LINKS_MAX: u32 = 40;
+const LINKS_MAX: u32 = 40;
 
 /// How many ancestors there is room for in one image: more than directories may be deep.
 pub(crate) const PLACES: usize = 65;
@@ -30,7 +31,7 @@ pub(crate) const PLACES: usize = 65;
 const MOUNTED_PLACES: usize = 513;
 
 /// Refuses a path as a whole: if it is too long, is empty, or does not begin with a slash.
-pub(crate) fn check_path(path: &[u8]) -> Result<(), WalkError>
+fn check_path(path: &[u8]) -> Result<(), WalkError>
     ensures leads { (g : Namespace MountedNode) (follow : Bool) → MatchResult result
         (λ _. resolution g path.now follow ≡ resolve g follow 40 (at_root g) (components path.now))
         (λ e. resolution g path.now follow ≡ Err e) }
@@ -53,19 +54,22 @@ pub(crate) fn check_path(path: &[u8]) -> Result<(), WalkError>
 }
 
 /// The place to which a path leads. The components that are still to come are those of `unread`:
-/// the rests of the path and of the texts of the links on the way, the last one first.
-fn find_place<'a, G: Images<'a>, const N: usize>(
+/// the rests of the path and of the texts of the links on the way, the last one first. Before each
+/// look-up its names are taken from the purse.
+pub(crate) fn find_place<'a, G: Images<'a>, const N: usize>(
     images: &mut G,
     mounts: &[Mount],
     path: &[u8],
     follow_last: bool,
-) -> Result<Location, WalkError>
+    purse: &mut Purse,
+) -> Result<Location, WithinError>
     requires mounts { are_mounts (G.held images.old).images mounts.now ≡ true }
     requires some { 0 < length (G.held images.old).images }
     requires places { 64 * length (G.held images.old).images < N }
     requires few { N ≤ 513 }
     requires shallow { AreShallow (G.held images.old).images }
-    ensures leads { IsFound (G.held images.old).images mounts.now path.now follow_last result }
+    ensures ends { IsFoundWithin (G.held images.old).images mounts.now path.now follow_last
+        purse.old purse.new result }
     ensures stays { G.held images.new ≡ G.held images.old }
 {
     check_path(path)?;
@@ -79,6 +83,9 @@ fn find_place<'a, G: Images<'a>, const N: usize>(
     let mut links = LINKS_MAX;
     unread.push(path);
     while let Some(component) = take_component(&mut unread) {
+        if !images.take_names_in(current, component, purse) {
+            return Err(WithinError::TooManyNames);
+        }
         let stays = last_stays(follow_last, unread.is_empty());
         let link = advance(
             images,
@@ -90,7 +97,7 @@ fn find_place<'a, G: Images<'a>, const N: usize>(
         )?;
         if let Some(link) = link {
             if links == 0 {
-                return Err(WalkError::Eloop);
+                return Err(WithinError::Path(WalkError::Eloop));
             }
             links -= 1;
             let text = images.link_text_in(link);
@@ -99,6 +106,29 @@ fn find_place<'a, G: Images<'a>, const N: usize>(
         }
     }
     Ok(current)
+}
+
+/// The place to which a path leads, however many names are compared.
+fn find_unlimited<'a, G: Images<'a>, const N: usize>(
+    images: &mut G,
+    mounts: &[Mount],
+    path: &[u8],
+    follow_last: bool,
+) -> Result<Location, WalkError>
+    requires mounts { are_mounts (G.held images.old).images mounts.now ≡ true }
+    requires some { 0 < length (G.held images.old).images }
+    requires places { 64 * length (G.held images.old).images < N }
+    requires few { N ≤ 513 }
+    requires shallow { AreShallow (G.held images.old).images }
+    ensures leads { IsFound (G.held images.old).images mounts.now path.now follow_last result }
+    ensures stays { G.held images.new ≡ G.held images.old }
+{
+    let mut purse = Purse::Unlimited;
+    match find_place::<G, N>(images, mounts, path, follow_last, &mut purse) {
+        Ok(place) => Ok(place),
+        Err(WithinError::Path(error)) => Err(error),
+        Err(WithinError::TooManyNames) => unreachable!(),
+    }
 }
 
 /// Finds the node to which a path leads. `follow_last` is whether a symbolic link is followed if it
@@ -136,7 +166,7 @@ pub fn walk<'a, T: TreeImage<'a>>(
     ensures stays { T.image image.new ≡ T.image image.old }
 {
     let mut one = One { image };
-    let place = find_place::<One<'_, T>, PLACES>(&mut one, &[], path, follow_last)?;
+    let place = find_unlimited::<One<'_, T>, PLACES>(&mut one, &[], path, follow_last)?;
     Ok(place.node)
 }
 
@@ -174,6 +204,11 @@ pub fn walk_mounts<'a, T: TreeImage<'a>>(
     ensures stays { map T.image images.new ≡ map T.image images.old }
 {
     let mut all = Several { images };
-    let place = find_place::<Several<'_, T>, MOUNTED_PLACES>(&mut all, mounts, path, follow_last)?;
+    let place = find_unlimited::<Several<'_, T>, MOUNTED_PLACES>(
+        &mut all,
+        mounts,
+        path,
+        follow_last,
+    )?;
     Ok((place.image, place.node))
 }

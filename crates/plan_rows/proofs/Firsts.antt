@@ -6,7 +6,7 @@ use Rattle.std.proofs.lemmas.Bool.{lt-ltb}
 use Rattle.std.proofs.Math.Seq.{split_at}
 use Rattle.std.proofs.lemmas.List.{at_drop_more}
 use Rattle.std.specs.List.{AllByRecursion as Every}
-use Rattle.rom_faults.specs.declared.fault.Fault.{Fault}
+use Rattle.rom_fields.specs.declared.fault.Fault.{Fault}
 use Rattle.record_forest.specs.Lesser.{lesser_of_both}
 use Rattle.record_forest.proofs.Lists.{pairs_right}
 use Rattle.manifest.specs.declared.line.Line.{Line}

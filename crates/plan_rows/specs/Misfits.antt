@@ -9,7 +9,7 @@ use Rattle.manifest_layout.specs.Tests.{at_line, number_of_line}
 use Rattle.formats.specs.declared.capacity.Capacity.{Capacity}
 use Rattle.romfs_format.specs.Tree.{mode_named}
 use Rattle.romfs_layout.specs.Layout.{number_of, runnable}
-use Rattle.rom_faults.specs.declared.fault.Fault.{Fault}
+use Rattle.rom_fields.specs.declared.fault.Fault.{Fault}
 use Rattle.rom_tree.specs.declared.types.Kind.{Kind}
 use Rattle.rom_tree.specs.declared.types.Kind.TheVariants as kind
 use Rattle.manifest.specs.declared.line.Line.{Line}

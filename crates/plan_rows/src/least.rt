@@ -14,7 +14,7 @@ use crate::PathTargets;
 use crate::lines::{is_long_volume, number_of_line};
 use crate::misfit::{Misfit, NAME_TOO_LONG};
 use manifest::Manifest;
-use plan_types::Format;
+use manifest_layout::Format;
 use rom_fields::OutOfMemory;
 use std::alloc::Global;
 

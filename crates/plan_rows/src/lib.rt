@@ -35,7 +35,7 @@ pub use files::{PathTargets, SourceUse};
 pub use inodes::{inode_of, root};
 pub use least::{least_of_lines, misfits};
 pub use lines::romfs_mode;
+pub use manifest_layout::Format;
 pub use misfit::Misfit;
 pub use order::rows;
-pub use plan_types::Format;
 pub use row::{Bytes, Inode, Row, What};

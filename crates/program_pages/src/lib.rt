@@ -6,9 +6,8 @@
 //!
 //! Proved:
 //!
-//! - `pages_in_place`, `shares_page`, `laws::run_is_mapped`: of a mapping of a file in one run, how
-//!   many pages Linux maps to the flash, by its rule as restated, for each such file of a cramfs
-//!   tree; whether the last page has other data.
+//! - `laws::run_is_mapped`: of a mapping of a file in one run, how many pages Linux maps to the
+//!   flash, by its rule as restated, for each such file of a cramfs tree.
 //! - `laws::aligned_is_in_place`: if the run begins with a page of the flash, each page of a
 //!   mapping that cannot be written is at the address of its bytes, except a shared last page.
 //! - `laws::run_is_whole`: without an MMU each mapping within the file is mapped whole, wherever
@@ -27,4 +26,4 @@ mod mapping;
 
 pub use counting::{NoProgram, ProgramPages, program_pages};
 pub use flat::{flat_pages, is_flat};
-pub use mapping::{Mapping, pages_in_place, shares_page};
+pub use mapping::Mapping;

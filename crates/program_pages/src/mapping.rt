@@ -42,7 +42,7 @@ fn has_zeros(b: &[u8], at: usize, n: usize) -> bool
 
 /// Returns whether the last page of a file of `size` bytes, which ends at `end`, has other bytes
 /// than zeros behind the file.
-pub fn shares_page(b: &[u8], end: usize, size: usize) -> bool
+pub(crate) fn shares_page(b: &[u8], end: usize, size: usize) -> bool
     ensures { result ≡ shares_page b.now end size }
 {
     let partial = size % 4_096;
@@ -51,7 +51,13 @@ pub fn shares_page(b: &[u8], end: usize, size: usize) -> bool
 
 /// Returns how many pages of the mapping Linux maps to the flash, of a file of `size` bytes from
 /// `start` on. `b` are the bytes of the flash, and `address` is where they begin.
-pub fn pages_in_place(b: &[u8], address: u64, start: usize, size: usize, mapping: &Mapping) -> u64
+pub(crate) fn pages_in_place(
+    b: &[u8],
+    address: u64,
+    start: usize,
+    size: usize,
+    mapping: &Mapping,
+) -> u64
     requires start { start < 2 ^ 60 }
     requires size { size < 2 ^ 60 }
     requires count { mapping.now.count < 2 ^ 60 }

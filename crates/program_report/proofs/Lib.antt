@@ -4,3 +4,7 @@ pub mod Objects
 pub mod SamePages
 pub mod SameVerdict
 pub mod Planned
+pub mod Places
+pub mod Few
+pub mod NodeNeeds
+pub mod NeedLines

@@ -2,3 +2,4 @@ pub mod Found
 pub mod Lines
 pub mod Findings
 pub mod Alike
+pub mod Needs

@@ -1,7 +1,7 @@
 -- Where the root is not valid, only it is reached.
 use Rattle.std.proofs.Common.{◌≡◌, ◌<◌, ℕ, [], ◌∷◌, refl, sym, subst, ◌∙◌, arith}
 use Rattle.record_forest.specs.declared.reference.Reference.{Reference}
-use Rattle.rom_faults.specs.declared.fault.Fault.{Fault}
+use Rattle.rom_fields.specs.declared.fault.Fault.{Fault}
 use Rattle.record_forest.specs.References.{References, Reached, top, more}
 use Rattle.record_forest.specs.Faults.{TooMany, HasFault, IsLeastFault}
 

@@ -6,7 +6,7 @@ use Rattle.std.proofs.lemmas.Bool.Decides.{eqb_tells}
 use Rattle.std.specs.Prelude.{nat_lt, nat_le, ◌==◌, ◌||◌, ◌&&◌}
 use Rattle.std.specs.List.{AllByRecursion as Every}
 use Rattle.record_forest.specs.declared.reference.Reference.{Reference}
-use Rattle.rom_faults.specs.declared.fault.Fault.{Fault}
+use Rattle.rom_fields.specs.declared.fault.Fault.{Fault}
 use Rattle.record_forest.specs.Members.{Pairs}
 use Rattle.record_forest.specs.References.{References, Reached}
 use Rattle.record_forest.specs.Faults.{HasFault, Twice, NotAfter, IsLeastFault, IsLeastFaultOf}

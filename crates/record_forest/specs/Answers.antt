@@ -1,12 +1,12 @@
 -- `traversal_answer`: a refusal of the traversal as the answer of a check. `AnswersLeast`: the
 -- answer is the least fault; or memory was refused, and then the image as a whole has no fault.
 -- (This project's own.)
-use Rattle.rom_faults.specs.declared.error.CheckError.{CheckError}
-use Rattle.rom_faults.specs.declared.error.CheckError.TheVariants.{OutOfMemory}
-use Rattle.rom_faults.specs.declared.error.CheckError.TheVariants.{Fault as FaultAnswer}
-use Rattle.rom_faults.specs.declared.fault.Fault.{Fault}
-use Rattle.rom_faults.specs.FaultNumbers.{TOO_MANY, TWICE}
-use Rattle.rom_faults.specs.Faults.{fault_answer}
+use Rattle.rom_fields.specs.declared.check_error.CheckError.{CheckError}
+use Rattle.rom_fields.specs.declared.check_error.CheckError.TheVariants.{OutOfMemory}
+use Rattle.rom_fields.specs.declared.check_error.CheckError.TheVariants.{Fault as FaultAnswer}
+use Rattle.rom_fields.specs.declared.fault.Fault.{Fault}
+use Rattle.rom_fields.specs.FaultNumbers.{TOO_MANY, TWICE}
+use Rattle.rom_fields.specs.Faults.{fault_answer}
 use Rattle.record_forest.specs.Faults.{IsNone}
 use Rattle.record_forest.specs.declared.traversal.TraversalError.{TraversalError}
 use Rattle.record_forest.specs.declared.traversal.TraversalError.TheVariants.{OutOfMemory as NoMemory}

@@ -2,7 +2,7 @@
 -- are two. (This project's own.)
 use Rattle.std.specs.Prelude.{ℕ, Option, None, Some, nat_lt, nat_le, ◌==◌, ◌||◌, ◌&&◌}
 use Rattle.std.specs.Prelude.{if◌then◌else◌}
-use Rattle.rom_faults.specs.declared.fault.Fault.{Fault}
+use Rattle.rom_fields.specs.declared.fault.Fault.{Fault}
 
 -- the lesser of a number, if there is one, and q
 abbrev pub lesser : Option ℕ → ℕ → Option ℕ

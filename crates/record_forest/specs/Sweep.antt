@@ -1,7 +1,7 @@
 -- `IsLeastRowFault`: of the faults that a phase finds among the rows of a forest, the one at the
 -- least offset, or none. (This project's own.)
 use Rattle.std.specs.Prelude.{◌≡◌, ℕ, ◌≤◌, List, ◌∷◌, ◌++◌, Option, None, IfSome, IsSomeAnd}
-use Rattle.rom_faults.specs.declared.fault.Fault.{Fault}
+use Rattle.rom_fields.specs.declared.fault.Fault.{Fault}
 use Rattle.record_forest.specs.declared.reference.Row.{Row}
 use Rattle.record_forest.specs.Faults.{IsLeast}
 

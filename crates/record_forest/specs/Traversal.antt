@@ -1,7 +1,7 @@
 -- `IsLeastRefusal`: the meaning of a refusal of the traversal. (This project's own.)
 use Rattle.std.specs.Prelude.{ℕ}
 use Rattle.record_forest.specs.declared.reference.Reference.{Reference}
-use Rattle.rom_faults.specs.declared.fault.Fault.{Fault}
+use Rattle.rom_fields.specs.declared.fault.Fault.{Fault}
 use Rattle.record_forest.specs.declared.traversal.TraversalError.{TraversalError}
 use Rattle.record_forest.specs.declared.traversal.TraversalError.TheVariants.{OutOfMemory}
 use Rattle.record_forest.specs.declared.traversal.TraversalError.TheVariants.{TooMany as TooManyRefusal}

@@ -3,8 +3,8 @@ ghost use Rattle.std.specs.Prelude.{◌≡◌};
 ghost use Rattle.record_forest.specs.Answers.{traversal_answer};
 
 use crate::traversal::TraversalError;
-use rom_faults::CheckError;
-use rom_faults::fault::{TOO_MANY, TWICE};
+use rom_fields::CheckError;
+use rom_fields::fault::{TOO_MANY, TWICE};
 
 /// Answers a refusal of the traversal: too many references by fault 1 at 0, a record's fault by
 /// that fault, and a record to which two references lead by fault 20 at that record.

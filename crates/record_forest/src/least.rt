@@ -2,7 +2,7 @@
 ghost use Rattle.std.specs.Prelude.{◌≡◌};
 ghost use Rattle.record_forest.specs.Lesser.{lesser_fault, lesser_of_both};
 
-use rom_faults::Fault;
+use rom_fields::Fault;
 
 /// Returns the lesser of `fault` and a noted fault, if there is one.
 pub fn lesser_fault(noted: Option<Fault>, fault: Fault) -> Option<Fault>

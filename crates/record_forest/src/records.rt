@@ -1,14 +1,14 @@
 //! The records of an image, as a traversal sees them.
 ghost use Rattle.std.specs.Prelude.{◌≡◌, ℕ, Option, Some, IfOk, IfErr};
 ghost use Rattle.record_forest.specs.declared.reference.Reference.{Reference};
-ghost use Rattle.rom_faults.specs.declared.fault.Fault.{Fault};
+ghost use Rattle.rom_fields.specs.declared.fault.Fault.{Fault};
 ghost use Rattle.record_forest.specs.References.{References, Reached};
 ghost use Rattle.record_forest.specs.Faults.{IsLeastFault};
 ghost use Rattle.record_forest.specs.Known.{AreKnown};
 
 use crate::known::VerifiedRanges;
 use crate::reference::{Edge, Edges, Reference};
-use rom_faults::Fault;
+use rom_fields::Fault;
 
 /// The records of an image, by the references between them.
 pub trait Records {

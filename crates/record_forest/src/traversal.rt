@@ -1,7 +1,7 @@
 //! The traversal of the records of an image, from its root.
 ghost use Rattle.std.specs.Prelude.{◌≡◌, ◌≢◌, ◌+◌, ◌^◌, ◌<◌, ◌≤◌, ℕ, Some, IfOk, IfErr, OnOk, List};
 ghost use Rattle.std.specs.Prelude.{[], ◌∷◌, ◌++◌};
-ghost use Rattle.rom_faults.specs.declared.fault.Fault.{Fault};
+ghost use Rattle.rom_fields.specs.declared.fault.Fault.{Fault};
 ghost use Rattle.record_forest.specs.declared.traversal.TraversalError.TheVariants.{OutOfMemory};
 ghost use Rattle.record_forest.specs.References.{AreLawful};
 ghost use Rattle.record_forest.specs.Forest.{Forest, all_rows, IsForest};
@@ -13,7 +13,7 @@ use crate::known::VerifiedRanges;
 use crate::least::lesser_fault;
 use crate::records::Records;
 use crate::reference::{Edge, Edges, Reference, Row};
-use rom_faults::Fault;
+use rom_fields::Fault;
 use std::alloc::{AllocFailed, Global};
 use std::collections::BTreeSet;
 

@@ -2,7 +2,7 @@
 ghost use Rattle.std.specs.Prelude.{◌≡◌, ◌≢◌, ◌≤◌, ◌⊎◌, ◌^◌, Some, length};
 ghost use Rattle.rom_tree.specs.Tree.{Node, ino_of, levels, node_at, nodes, IsShallow};
 ghost use Rattle.rom_tree.specs.Names.{names};
-ghost use Rattle.rom_faults.specs.declared.error.CheckError.TheVariants.{Fault, OutOfMemory};
+ghost use Rattle.rom_fields.specs.declared.check_error.CheckError.TheVariants.{Fault, OutOfMemory};
 ghost use Rattle.romfs_image.specs.Parts.{AreParts as AreRomfsParts};
 ghost use Rattle.cramfs_image.specs.Parts.{AreParts as AreCramfsParts};
 ghost use Rattle.cramfs_format.specs.Superblock.{order_of};
@@ -19,7 +19,7 @@ use cramfs_format::Order;
 use cramfs_image::Parts as CramfsParts;
 use image_check::laws::one_tree;
 use image_check::{AnyImage, Parts, check};
-use rom_faults::CheckError;
+use rom_fields::CheckError;
 use rom_tree::Limits;
 use romfs_image::Parts as RomfsParts;
 use std::alloc::Global;

@@ -5,7 +5,7 @@ ghost use Rattle.rom_tree.specs.Tree.{Node, node_at, is_link};
 ghost use Rattle.rom_tree.specs.Image.{stat_of};
 ghost use Rattle.path_walk.specs.Resolution.{resolution, tree_namespace};
 ghost use Rattle.path_walk.specs.Compared.{names_compared};
-ghost use Rattle.rom_faults.specs.declared.error.CheckError.TheVariants.{Fault, OutOfMemory};
+ghost use Rattle.rom_fields.specs.declared.check_error.CheckError.TheVariants.{Fault, OutOfMemory};
 ghost use Rattle.image_check.specs.Checked.{HasTree, IsLeastFaultUnder};
 ghost use Rattle.rom_c.specs.Held.{usual, IsFormat, IsReported};
 ghost use Rattle.rom_c.specs.Reported.{IsText, IsTextAt, entry_reported, led_reported};
@@ -28,7 +28,7 @@ use std::alloc::Global;
 /// or 3 (big-endian cramfs), `root` is the number of the tree's root, and it has the numbers of the
 /// check. Otherwise the status is 0, and
 /// the result is 14 if the bytes have a fault, whose number and offset are in `fault` and `at` (the
-/// numbers are those of `rom_faults`), or 15 if memory was refused.
+/// numbers are those of `rom_fields`), or 15 if memory was refused.
 #[unsafe(no_mangle)]
 pub extern "C" fn romtool_check_v3<'a>(
     alloc: Global,

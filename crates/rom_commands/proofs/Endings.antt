@@ -5,8 +5,8 @@ use Rattle.std.specs.Prelude.{IfOk, IfErr}
 use Rattle.rom_fields.specs.declared.bytes.Failed.{Failed}
 use Rattle.rom_fields.specs.Failures.{Rose, Counts, one_more}
 use Rattle.rom_fields.specs.Written.{Output, WritesText}
-use Rattle.rom_faults.specs.declared.error.CheckError.{CheckError}
-use Rattle.rom_faults.specs.declared.error.CheckError.TheVariants as check
+use Rattle.rom_fields.specs.declared.check_error.CheckError.{CheckError}
+use Rattle.rom_fields.specs.declared.check_error.CheckError.TheVariants as check
 use Rattle.rom_tree.specs.Image.{Image}
 use Rattle.rom_tree.specs.declared.types.Limits.{Limits}
 use Rattle.image_check.specs.Any.{any_view, report_of}
@@ -29,7 +29,7 @@ use Rattle.rom_commands.specs.Answers.{IsFaultTextUnder, IsFaultText, HasFault, 
 use Rattle.rom_commands.specs.Endings.{line_of}
 use Rattle.rom_commands.specs.declared.ending.Ending.{Ending}
 use Rattle.rom_commands.specs.declared.ending.Ending.TheVariants as ending
-use Rattle.rom_faults.specs.declared.fault.Fault.{Fault}
+use Rattle.rom_fields.specs.declared.fault.Fault.{Fault}
 use Rattle.rom_commands.specs.Serving.{Input, EndsServed, EndsRefused, Reports, CheckedEnds, ServingEndsUnder, HoldAll}
 use Rattle.rom_commands.specs.Serving.{IsFirstFaultText, HasFirstFault, SpaceEnds, ServingEnds, serving_of, refusal_of}
 use Rattle.rom_commands.specs.Serving.{EndsAs, ImageEnds, ImagesEnd, IsFaultIn, IsFaultOf, ending_of}

@@ -5,7 +5,7 @@ use Rattle.std.specs.Io.KnownBytes.{Keeps}
 use Rattle.rom_fields.specs.Failures.{Rose, one_more}
 use Rattle.rom_fields.specs.Written.{AppendsPrefix, Output, sink}
 use Rattle.rom_fields.proofs.Joins.{appends_keep, front_all, puts_nothing}
-use Rattle.rom_faults.specs.declared.fault.Fault.{Fault}
+use Rattle.rom_fields.specs.declared.fault.Fault.{Fault}
 use Rattle.rom_commands.specs.declared.asked.Asked.{Asked}
 use Rattle.rom_commands.specs.declared.ending.Ending.{Ending}
 use Rattle.rom_commands.specs.declared.ending.Ending.TheVariants as ending

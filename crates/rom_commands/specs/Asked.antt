@@ -8,28 +8,33 @@ use Rattle.image_info.specs.Map.{map_text}
 use Rattle.image_info.specs.Info.{info_text}
 use Rattle.linux_misreads.specs.Misreads.{is_printed, misreads_text}
 use Rattle.program_report.specs.Lines.{programs_text, warns as programs_warn}
+use Rattle.program_report.specs.Needs.{needs_text, needs_warn}
 use Rattle.rom_commands.specs.Room.{fits, room_text}
 use Rattle.rom_commands.specs.Lines.{ok_line}
 use Rattle.rom_commands.specs.declared.asked.Asked.{Asked}
 use Rattle.rom_commands.specs.declared.asked.Asked.TheVariants.{Report, List as Listed, Map}
-use Rattle.rom_commands.specs.declared.asked.Asked.TheVariants.{Misreads, Programs, Facts, Fit}
+use Rattle.rom_commands.specs.declared.asked.Asked.TheVariants.{Misreads, Needs, Programs}
+use Rattle.rom_commands.specs.declared.asked.Asked.TheVariants.{Facts, Fit}
 
 -- the text of an image: its format, references and depth; its list; its map; what Linux misreads in
--- it; which programs Linux executes in place; its facts; or its facts and whether it fits
+-- it; what its programs need that it does not have; which programs Linux executes in place; its
+-- facts; or its facts and whether it fits
 abbrev pub sound_text : Asked → AnyImage → List ℕ
 sound_text Report a = ok_line (name_of (image_format a)) (report_of a).references
     (report_of a).depth
 sound_text Listed a = list_text (any_view a).bytes (any_view a).tree
 sound_text (Map base) a = map_text base (any_view a).tree
 sound_text Misreads a = misreads_text a
+sound_text Needs a = needs_text (any_view a)
 sound_text (Programs q) a = programs_text a q
 sound_text (Facts file) a = info_text file a
 sound_text (Fit file limit) a = info_text file a ++ room_text limit a
 
--- whether it reports something that Linux misreads, a program that is not executed in place, or
--- that the image does not fit
+-- whether it reports something that Linux misreads, that is needed or not looked at, a program that
+-- is not executed in place, or that the image does not fit
 abbrev pub warns : Asked → AnyImage → Bool
 warns Misreads a = is_printed (misreads_text a)
+warns Needs a = needs_warn (any_view a)
 warns (Programs q) a = programs_warn a q
 warns (Fit file limit) a = not (fits limit a)
 warns _ a = false

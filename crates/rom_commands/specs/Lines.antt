@@ -1,6 +1,6 @@
 -- The lines of a valid image and of a fault. (This project's own.)
 use Rattle.std.specs.Prelude.{ℕ, List, ◌++◌, codes, decimal}
-use Rattle.rom_faults.specs.Faults.{name_of_fault}
+use Rattle.rom_fields.specs.Faults.{name_of_fault}
 
 -- fault NUMBER NAME at OFFSET
 abbrev pub fault_text : ℕ → ℕ → List ℕ

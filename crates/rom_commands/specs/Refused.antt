@@ -2,7 +2,7 @@
 -- written. (This project's own.)
 use Rattle.std.specs.Prelude.{◌≡◌, ℕ, List, Some}
 use Rattle.rom_fields.specs.Written.{Output}
-use Rattle.rom_faults.specs.declared.fault.Fault as fault
+use Rattle.rom_fields.specs.declared.fault.Fault as fault
 use Rattle.serve_lines.specs.Served.{Machine}
 use Rattle.rom_commands.specs.Answers.{HasFault, WritesFault}
 use Rattle.rom_commands.specs.Serving.{EndsAs, EndsServed, HasFirstFault, Input}

@@ -6,9 +6,9 @@ use Rattle.std.specs.Io.KnownBytes.{Appends}
 use Rattle.rom_fields.specs.declared.bytes.Failed.{Failed}
 use Rattle.rom_fields.specs.Failures.{Rose, one_more}
 use Rattle.rom_fields.specs.Written.{AppendsPrefix, Output}
-use Rattle.rom_faults.specs.declared.error.CheckError.{CheckError}
-use Rattle.rom_faults.specs.declared.error.CheckError.TheVariants as check
-use Rattle.rom_faults.specs.declared.fault.Fault.{Fault}
+use Rattle.rom_fields.specs.declared.check_error.CheckError.{CheckError}
+use Rattle.rom_fields.specs.declared.check_error.CheckError.TheVariants as check
+use Rattle.rom_fields.specs.declared.fault.Fault.{Fault}
 use Rattle.rom_tree.specs.Image.{Image}
 use Rattle.rom_tree.specs.declared.types.Limits.{Limits}
 use Rattle.image_check.specs.Any.{any_view}

@@ -12,6 +12,8 @@ pub enum Asked {
     Map(u64),
     /// What Linux misreads in it.
     Misreads,
+    /// What its programs need that it does not have.
+    Needs,
     /// Which of its programs Linux executes in place.
     Programs(Question),
     /// Its facts, if its file has this number of bytes.

@@ -11,8 +11,7 @@ ghost use Rattle.rom_commands.specs.declared.ending.Ending.TheVariants.{Fault as
 use crate::fault::put_fault;
 use crate::status::Status;
 use path_walk::WalkError;
-use rom_faults::Fault;
-use rom_fields::{ByteWrite, Failed, put, put_decimal, put_escaped};
+use rom_fields::{ByteWrite, Failed, Fault, put, put_decimal, put_escaped};
 
 /// Why no bytes of a file are at a path.
 #[derive(Clone, Copy, PartialEq, Eq)]

@@ -2,7 +2,7 @@
 ghost use Rattle.rom_fields.specs.Written.{Puts, sink};
 ghost use Rattle.rom_commands.specs.Lines.{fault_text};
 
-use rom_faults::name;
+use rom_fields::fault::name;
 use rom_fields::{ByteWrite, put, put_decimal};
 
 /// Puts `fault NUMBER NAME at OFFSET`.

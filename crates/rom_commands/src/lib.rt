@@ -6,25 +6,24 @@
 //!
 //! Proved:
 //!
-//! - `show`, `has_addresses`, `print`, `print_answer`, `check_usual`, `image_size`: the output of
-//!   `check`, `list`, `map`, `linux`, `xip` and `info`, or the line of the fault, for each ending,
-//!   after one check (`print_answer` after one that was made before). After that of `info`: unused
-//!   bytes, whether the image fits into a number of bytes, how many are left, and a status of 1
-//!   exactly if it does not fit.
-//! - `print`, `print_file`, `takes_fault`, `refuse`: if an image has a fault, `check` and `list`
-//!   have its line on standard output; for all other requests it is on standard error, and standard
-//!   output has nothing.
+//! - `show`, `has_addresses`, `print`, `print_answer`, `check_usual`: the output of `check`,
+//!   `list`, `map`, `linux`, `xip` and `info`, or the line of the fault, for each ending, after one
+//!   check (`print_answer` after one that was made before). After that of `info`: unused bytes,
+//!   whether the image fits into a number of bytes, how many are left, and a status of 1 exactly if
+//!   it does not fit.
+//! - `print`, `print_file`, `refuse`: if an image has a fault, `check` and `list` have its line on
+//!   standard output; for all other requests it is on standard error, and standard output has
+//!   nothing.
 //! - `refuse`, `refuse_in`: a fault that the front of a file already shows is reported like a fault
 //!   of the whole file, for one image and for several.
 //! - `copy`, `print_file`, `print`: the bytes of the regular file to which a path leads, or why
 //!   there are none. `print` and `print_file` promise this and what `show` promises over any
 //!   streams, and the text of standard error. If the whole text was written, at least one flush of
 //!   the writer has succeeded; a failed one is a write fault.
-//! - `serve_image`, `serve_on`, `serve_under`, `serve_checked`: **an image that is accepted is
+//! - `serve_image`, `serve_on`, `serve_under`: **an image that is accepted is
 //!   served as the tree that its format defines for its bytes**, under the usual limits or any
 //!   others, with the text of standard error for every ending (`serve_on`). Otherwise the line of
-//!   its fault is written and flushed once, and no request is read. `serve_checked` does so after a
-//!   check, and ends with `Memory` exactly if the check answered so.
+//!   its fault is written and flushed once, and no request is read.
 //! - `serve_images`, `serve_several_on`: the same for several images with sessions; the line has
 //!   the number of the first image that has a fault.
 //! - `Status::code`, `Ending::status`, `NoFile::name`, `report`: each status has its number; each
@@ -33,7 +32,7 @@
 //!   command ends with a fault, it is the least fault of the image's bytes under the usual
 //!   limits.** With several images it is the fault of the first image that has one, and the ending
 //!   has the image's number.
-//! - `print_digests`, `print_image_digest`, `print_verdict`, `verify_dump`, `print_diff`,
+//! - `print_digests`, `print_image_digest`, `verify_dump`, `print_diff`,
 //!   `print_extents`, `print_places`, `print_header`, `print_script`, `Only`, `print_numbers`:
 //!   `digest`, `verify`, `diff`, `map --all`, `which`, `numbers`, and `map --c` and `--ld` with
 //!   `--only` (which files patterns choose) print exactly their texts, and then a flush succeeds.
@@ -57,6 +56,7 @@ mod example;
 mod fault;
 mod flash;
 mod inspected;
+mod lent;
 mod maps;
 mod numbers;
 mod places;
@@ -80,9 +80,8 @@ pub use maps::{print_header, print_script};
 pub use numbers::print_numbers;
 pub use places::print_places;
 pub use printing::{print, print_answer};
-pub use room::image_size;
-pub use serving::{Serving, refuse, serve_checked, serve_image, serve_on, serve_under};
+pub use serving::{Serving, refuse, serve_image, serve_on, serve_under};
 pub use several::{refuse_in, serve_images, serve_several_on};
-pub use shown::{check_usual, has_addresses, show, takes_fault};
+pub use shown::{check_usual, has_addresses, show};
 pub use status::Status;
-pub use verdicts::{Verified, print_verdict, verify_dump};
+pub use verdicts::{Verified, verify_dump};

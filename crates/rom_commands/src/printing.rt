@@ -13,8 +13,7 @@ use crate::asked::Asked;
 use crate::ending::{Ending, has_text, report};
 use crate::shown::{check_usual, show_answer, takes_fault};
 use image_check::AnyImage;
-use rom_faults::CheckError;
-use rom_fields::{ByteWrite, Plain};
+use rom_fields::{ByteWrite, CheckError, Plain};
 use std::alloc::Global;
 use std::io::Write;
 

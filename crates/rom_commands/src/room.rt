@@ -14,7 +14,7 @@ use rom_fields::{ByteWrite, Failed, put, put_long_decimal};
 use std::alloc::Global;
 
 /// Returns the number of bytes of an image, as its superblock states it.
-pub fn image_size(image: &AnyImage<'_>) -> u64
+pub(crate) fn image_size(image: &AnyImage<'_>) -> u64
     ensures { result ≡ size_of image.now }
 {
     image.size() as u64

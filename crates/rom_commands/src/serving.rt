@@ -17,8 +17,7 @@ use crate::ending::{Ending, conclude, report, write_and_flush, write_fault};
 use crate::shown::takes_fault;
 use image_check::{AnyImage, check};
 use lookups::Indexed;
-use rom_faults::{CheckError, Fault};
-use rom_fields::{ByteRead, ByteWrite, Failed};
+use rom_fields::{ByteRead, ByteWrite, CheckError, Failed, Fault};
 use rom_serve::{Cached, NoCache, ServeError, serve};
 use rom_tree::Limits;
 use std::alloc::Global;
@@ -127,7 +126,7 @@ fn answer_lines<'a, R: ByteRead, W: ByteWrite>(
 /// Serves an image that a check with any limits accepted: answers the lines of `r` on `w`, as
 /// `rom_serve::serve` does. If the check found a fault, writes its line and flushes it. Ends with
 /// `Memory` only if memory was refused to the check.
-pub fn serve_checked<'a, R: ByteRead, W: ByteWrite>(
+pub(crate) fn serve_checked<'a, R: ByteRead, W: ByteWrite>(
     alloc: Global,
     checked: Result<AnyImage<'a>, CheckError>,
     r: &mut R,

@@ -9,6 +9,7 @@ ghost use Rattle.image_info.specs.Info.{info_text};
 ghost use Rattle.formats.specs.Format.{name_of};
 ghost use Rattle.image_check.specs.Any.{any_view, image_format, report_of};
 ghost use Rattle.image_info.specs.Gaps.{IsChecked};
+ghost use Rattle.program_report.specs.Needs.{needs_text, needs_warn};
 ghost use Rattle.rom_commands.specs.Lines.{ok_line};
 ghost use Rattle.rom_commands.specs.Asked.{sound_text, takes_fault, warns, Fits};
 ghost use Rattle.rom_commands.specs.Answers.{Ends, IsAnswer, ShowsFault};
@@ -17,13 +18,14 @@ ghost use Rattle.rom_commands.specs.declared.ending.Ending.TheVariants.{Fault as
 
 use crate::asked::Asked;
 use crate::ending::{Ending, write_line};
+use crate::lent::Lent;
 use crate::room::{free_bytes, image_size, write_room};
 use image_check::{AnyImage, check};
 use image_info::{InfoError, map, write_info};
 use linux_misreads::misreads;
-use program_report::{Question, write_programs};
-use rom_faults::{CheckError, Fault};
-use rom_fields::{ByteWrite, Failed, put, put_decimal};
+use lookups::Indexed;
+use program_report::{Question, write_needs, write_programs};
+use rom_fields::{ByteWrite, CheckError, Failed, Fault, put, put_decimal};
 use rom_tree::{Limits, Report, list};
 use std::alloc::Global;
 
@@ -42,12 +44,12 @@ pub fn has_addresses(asked: Asked, len: usize) -> bool
 
 /// Returns whether the line of a fault is written in place of what is asked. This holds for a
 /// report and a list. Otherwise standard error has the line, so that no fault is among data.
-pub fn takes_fault(asked: Asked) -> bool
+pub(crate) fn takes_fault(asked: Asked) -> bool
     ensures { result ≡ takes_fault asked }
 {
     match asked {
         Asked::Report | Asked::List => true,
-        Asked::Map(_) | Asked::Misreads | Asked::Programs(_) => false,
+        Asked::Map(_) | Asked::Misreads | Asked::Needs | Asked::Programs(_) => false,
         Asked::Facts(_) | Asked::Fit { .. } => false,
     }
 }
@@ -74,6 +76,25 @@ fn write_ok_line<W: ByteWrite>(w: &mut W, format: &[u8], report: Report) -> Resu
     put_decimal(w, &mut failed, report.depth);
     put(w, &mut failed, b"\n");
     if failed { Err(Failed) } else { Ok(()) }
+}
+
+/// Writes what the programs of a valid image need that it does not have, and returns whether there
+/// is something. Names are looked up by an index if there is memory for it.
+fn write_missing<W: ByteWrite>(
+    alloc: Global,
+    image: &AnyImage,
+    w: &mut W,
+) -> Result<bool, InfoError>
+    requires { IsShallow (any_view image.now).tree }
+    ensures text { WritesAll (W.output w.old) (W.output w.new) (needs_text (any_view image.now))
+        result }
+    ensures warns { IfOk result (λ b. b ≡ needs_warn (any_view image.now)) }
+{
+    let mut indexed = Indexed::new(alloc, Lent { image });
+    match write_needs(&mut indexed, w) {
+        Ok(warned) => Ok(warned),
+        Err(_) => Err(InfoError::WriteFault),
+    }
 }
 
 /// Writes the facts of a valid image, which are no warning.
@@ -145,6 +166,7 @@ fn write_sound<W: ByteWrite>(
             Err(_) => Err(InfoError::WriteFault),
         },
         Asked::Misreads => misreads(alloc, image, w),
+        Asked::Needs => write_missing(alloc, image, w),
         Asked::Programs(question) => match write_programs(alloc, image, &question, w) {
             Ok(warned) => Ok(warned),
             Err(_) => Err(InfoError::WriteFault),

@@ -33,7 +33,7 @@ fn write_one<W: ByteWrite>(size: usize, found: Option<usize>, w: &mut W) -> Endi
 /// Prints to `out` whether a dump has an image of `size` bytes, `ok SIZE`, or `differ OFFSET` with
 /// the offset of the first byte that it has not, and flushes it. Returns `Done`, or `Warned` if the
 /// dump differs; or `WriteFault` if a write or the flush failed, and `err` says so.
-pub fn print_verdict<W: ByteWrite, E: ByteWrite>(
+pub(crate) fn print_verdict<W: ByteWrite, E: ByteWrite>(
     size: usize,
     found: Option<usize>,
     out: &mut W,

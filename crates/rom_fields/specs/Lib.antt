@@ -8,3 +8,5 @@ pub mod Parts
 pub mod Padding
 pub mod Sums
 pub mod Rewritten
+pub mod FaultNumbers
+pub mod Faults

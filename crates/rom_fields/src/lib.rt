@@ -1,6 +1,7 @@
 //! What the crates that read, build and serve images share: words and their sums; readers and
 //! writers that count their failures; texts that are written whole or as a prefix; the first
-//! overlap of extents; and a canvas of bytes, on which parts are put at their offsets.
+//! overlap of extents; a canvas of bytes, on which parts are put at their offsets; and the faults
+//! of an image by number, the same in all formats, with `CheckError`, the answer of a check.
 //!
 //! `specs/Words.antt` defines words (romfs stores big-endian ones: Linux
 //! Documentation/filesystems/romfs.rst), `specs/Parts.antt` parts that are laid one after the
@@ -28,12 +29,17 @@
 //! - `laws::sums_are_zero`: the words that are chosen to bring sums to 0 do so.
 //! - `Rewrite`, `Memory` as `Rewrite`: bytes that a writer took are replaced at the same place, and
 //!   no others. At an error a prefix of the new bytes is there. `Memory` does so.
+//! - `fault::name`: the name of each fault (`specs/Faults.antt`).
+//! - `CheckError` as `From<Fault>`, `From<OutOfMemory>`: a fault, and refused memory, become the
+//!   answer of a check.
 #![tactic(auto)]
 
 mod bytes;
 mod canvas;
+mod check_error;
 mod contents;
 mod extents;
+pub mod fault;
 mod faulty;
 pub mod laws;
 mod memory;
@@ -46,8 +52,10 @@ mod word;
 
 pub use bytes::{ByteRead, ByteWrite, Failed, Plain};
 pub use canvas::Canvas;
+pub use check_error::CheckError;
 pub use contents::Contents;
 pub use extents::Extents;
+pub use fault::Fault;
 pub use faulty::Faulty;
 pub use memory::OutOfMemory;
 pub use memory_writer::Memory;

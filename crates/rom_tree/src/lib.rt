@@ -42,6 +42,6 @@ pub use image::{
 };
 pub use line::put_stat;
 pub use listing::list;
-pub use rom_faults::CheckError;
+pub use rom_fields::CheckError;
 pub use runs::{front_bytes, lesser, longest_run};
 pub use types::{Cursor, Entry, Kind, Limits, ListError, NoRoom, NodeId, Piece, Report, Run, Stat};

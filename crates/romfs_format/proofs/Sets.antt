@@ -3,7 +3,7 @@ use Rattle.std.proofs.Common.{◌≡◌, ◌≢◌, ℕ, ◌<◌, false, List, d
 use Rattle.std.proofs.lemmas.Bool.{ne_eqb}
 use Rattle.std.specs.List.{AllPairs, AllByRecursion as Every}
 use Rattle.record_forest.specs.declared.reference.Reference.{Reference}
-use Rattle.rom_faults.specs.declared.fault.Fault.{Fault}
+use Rattle.rom_fields.specs.declared.fault.Fault.{Fault}
 use Rattle.record_forest.specs.declared.reference.Row.{Row}
 use Rattle.record_forest.specs.Members.{Has}
 use Rattle.record_forest.specs.Forest.{Forest, none, at, Stands, all_rows, IsForest}

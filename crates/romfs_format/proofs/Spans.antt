@@ -5,7 +5,7 @@ use Rattle.std.specs.List.{flat_map, AllByRecursion as Every}
 use Rattle.rom_fields.specs.declared.span.Extent.TheVariants.{Super, Record, Data}
 use Rattle.rom_fields.specs.declared.span.Span.{Span}
 use Rattle.rom_fields.specs.Extents.{OverlapsAt, added}
-use Rattle.rom_faults.specs.declared.fault.Fault.{Fault}
+use Rattle.rom_fields.specs.declared.fault.Fault.{Fault}
 use Rattle.record_forest.specs.declared.reference.Row.{Row}
 use Rattle.record_forest.specs.Members.{Has, Pairs}
 use Rattle.record_forest.proofs.Lists.{every_join, every_weaker, has_every, has_left, has_right, pairs_join}

@@ -10,7 +10,7 @@ use Rattle.rom_fields.specs.declared.span.Extent.TheVariants.{Super, Record, Dat
 use Rattle.rom_fields.specs.declared.span.Span.{Span}
 use Rattle.rom_fields.specs.Extents.{Overlap}
 use Rattle.record_forest.specs.declared.reference.Reference.{Reference}
-use Rattle.rom_faults.specs.declared.fault.Fault.{Fault}
+use Rattle.rom_fields.specs.declared.fault.Fault.{Fault}
 use Rattle.record_forest.specs.References.{Reached}
 use Rattle.record_forest.specs.Faults.{TooMany, HasFault, Twice, InList, HasDepth, IsLeastFault}
 use Rattle.record_forest.specs.Faults.{IsNone}
@@ -21,8 +21,8 @@ use Rattle.romfs_format.specs.Refers.{LeadsToSound, LeadsToFault}
 use Rattle.romfs_format.specs.Tree.{root_of}
 use Rattle.rom_tree.specs.Dots.{dot, dot_dot, is_dots}
 use Rattle.romfs_format.specs.Superblock.{HasImageFault, accessible}
-use Rattle.rom_faults.specs.FaultNumbers.{TOO_MANY, TWICE, TOO_DEEP, OVERLAP, DUPLICATE_NAME, DOT}
-use Rattle.rom_faults.specs.FaultNumbers.{HARD_LINK}
+use Rattle.rom_fields.specs.FaultNumbers.{TOO_MANY, TWICE, TOO_DEEP, OVERLAP, DUPLICATE_NAME, DOT}
+use Rattle.rom_fields.specs.FaultNumbers.{HARD_LINK}
 
 -- a valid record that a reference leads to
 pub record IsReached (b : List ℕ) (r p : ℕ) : Type 0 where

@@ -13,7 +13,7 @@ use Rattle.std.specs.Prelude.{◌≡◌, ◌≢◌, ℕ, ◌+◌, ◌-◌, ◌*�
 use Rattle.std.specs.Prelude.{◌==◌, ◌||◌, IsTrue, List, [], ◌∷◌, length, drop, ◌⊎◌}
 use Rattle.std.specs.List.{Contains}
 use Rattle.rom_fields.specs.Words.{word_be, words_sum, part_of}
-use Rattle.rom_faults.specs.FaultNumbers.{BOUNDS, HEADER_SUM, BAD_NAME, LINK_SIZE}
+use Rattle.rom_fields.specs.FaultNumbers.{BOUNDS, HEADER_SUM, BAD_NAME, LINK_SIZE}
 
 -- the offset without its low four bits, which are not part of it
 abbrev pub align16 : ℕ → ℕ

@@ -5,7 +5,7 @@ use Rattle.std.specs.Prelude.{◌≡◌, ℕ, Bool, true, if◌then◌else◌, �
 use Rattle.record_forest.specs.declared.reference.Reference.{Reference}
 use Rattle.record_forest.specs.References.{References}
 use Rattle.romfs_format.specs.Record.{next_of, first_of, IsSound, HasRecordFault}
-use Rattle.rom_faults.specs.declared.fault.Fault.{Fault}
+use Rattle.rom_fields.specs.declared.fault.Fault.{Fault}
 
 -- the root is the first record of its own list, as genromfs writes it
 unfoldable pub heads_itself : List ℕ → ℕ → Bool

@@ -5,10 +5,10 @@
 -- the root.
 use Rattle.std.specs.Prelude.{◌≡◌, ◌≢◌, ℕ, ◌+◌, ◌<◌, ◌≤◌, min, List, length, take, drop}
 use Rattle.rom_fields.specs.Words.{words_sum}
-use Rattle.rom_faults.specs.declared.fault.Fault.{Fault}
+use Rattle.rom_fields.specs.declared.fault.Fault.{Fault}
 use Rattle.romfs_format.specs.Record.{type_of, before_zero}
 use Rattle.romfs_format.specs.Tree.{magic, full_size, root_of}
-use Rattle.rom_faults.specs.FaultNumbers.{SHORT, MAGIC, SIZE, SUM, ROOT}
+use Rattle.rom_fields.specs.FaultNumbers.{SHORT, MAGIC, SIZE, SUM, ROOT}
 
 -- the bytes up to the full size
 abbrev pub accessible : List ℕ → List ℕ

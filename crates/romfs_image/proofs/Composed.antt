@@ -5,7 +5,7 @@ use Rattle.std.proofs.lemmas.List.{get_or_default}
 use Rattle.std.proofs.lemmas.List.Elements.{recursion_from_All, All-from_recursion, All-tail}
 use Rattle.std.specs.List.{All, AllByRecursion as Every}
 use Rattle.rom_fields.specs.Extents.{OverlapsAt, IsLeastOf}
-use Rattle.rom_faults.specs.declared.fault.Fault.{Fault}
+use Rattle.rom_fields.specs.declared.fault.Fault.{Fault}
 use Rattle.record_forest.specs.declared.reference.Row.{Row}
 use Rattle.record_forest.specs.Forest.{Forest, none, at, all_rows, IsForest, NamesDiffer}
 use Rattle.record_forest.proofs.Lists.{pairs_to}

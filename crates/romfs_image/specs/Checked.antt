@@ -5,7 +5,7 @@ use Rattle.rom_tree.specs.Tree.{depth}
 use Rattle.rom_tree.specs.Image.{Image}
 use Rattle.rom_tree.specs.declared.types.Limits.{Limits}
 use Rattle.rom_tree.specs.declared.types.Report.{Report}
-use Rattle.rom_faults.specs.declared.error.CheckError.{CheckError}
+use Rattle.rom_fields.specs.declared.check_error.CheckError.{CheckError}
 use Rattle.rom_tree.specs.Checks.{Refuses}
 use Rattle.record_forest.specs.Answers.{AnswersLeast}
 use Rattle.record_forest.specs.Forest.{all_rows}

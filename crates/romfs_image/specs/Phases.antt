@@ -3,14 +3,14 @@
 use Rattle.std.specs.Prelude.{◌≡◌, ◌≢◌, ℕ, ◌<◌, ◌≤◌, ◌==◌, Bool, true, false, length, slice_index}
 use Rattle.std.specs.Prelude.{List, ◌∷◌, ◌++◌, None, Some}
 use Rattle.std.specs.List.{Any, list_any}
-use Rattle.rom_faults.specs.declared.fault.Fault.{Fault}
+use Rattle.rom_fields.specs.declared.fault.Fault.{Fault}
 use Rattle.record_forest.specs.declared.reference.Row.{Row}
 use Rattle.record_forest.specs.Sweep.{IsLeastRowFault}
 use Rattle.romfs_format.specs.Record.{name_of, type_of}
 use Rattle.rom_fields.specs.Extents.{OverlapsAt, IsLeastOf}
 use Rattle.romfs_format.specs.Tree.{follow, LeadsWell, extents_of, listed_rows}
 use Rattle.rom_tree.specs.Dots.{dot, dot_dot, is_dots}
-use Rattle.rom_faults.specs.FaultNumbers.{TOO_DEEP, OVERLAP, DUPLICATE_NAME, DOT, HARD_LINK}
+use Rattle.rom_fields.specs.FaultNumbers.{TOO_DEEP, OVERLAP, DUPLICATE_NAME, DOT, HARD_LINK}
 
 -- the offsets of the rows, in rising order
 pub record AreOffsets (rows : List Row) (offsets : List ℕ) : Type 0 where

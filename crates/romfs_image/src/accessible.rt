@@ -6,7 +6,7 @@ ghost use Rattle.romfs_format.specs.Refers.{list_of, following, reference_offset
 
 use crate::soundness::record_fault;
 use record_forest::{Edge, Edges, Records, Reference, VerifiedRanges};
-use rom_faults::Fault;
+use rom_fields::Fault;
 
 /// The accessible bytes of an image, and the offset of the root's header among them.
 #[derive(Clone, Copy)]

@@ -5,7 +5,7 @@ use crate::image::Romfs;
 use crate::phases::later_fault;
 use crate::superblock::read_superblock;
 use record_forest::traverse;
-use rom_faults::CheckError;
+use rom_fields::CheckError;
 use rom_tree::{Limits, Viewed};
 use std::alloc::Global;
 

@@ -9,8 +9,8 @@ ghost use Rattle.romfs_image.specs.Phases.{IsTooDeep, IsShallow};
 
 use crate::accessible::Accessible;
 use record_forest::{Row, lesser_fault};
-use rom_faults::Fault;
-use rom_faults::fault::TOO_DEEP;
+use rom_fields::Fault;
+use rom_fields::fault::TOO_DEEP;
 use rom_tree::is_dots;
 
 /// Whether a row is an entry, and not `.` or `..`.

@@ -15,9 +15,8 @@ ghost use Rattle.romfs_image.specs.Phases.{AreOffsets, FindsRepeated, IsNameFaul
 use crate::accessible::Accessible;
 use crate::rows::{led_to, offsets_of};
 use record_forest::{ListedName, Row, lesser_fault, repeats};
-use rom_faults::Fault;
-use rom_faults::fault::{DOT, DUPLICATE_NAME, HARD_LINK};
-use rom_fields::OutOfMemory;
+use rom_fields::fault::{DOT, DUPLICATE_NAME, HARD_LINK};
+use rom_fields::{Fault, OutOfMemory};
 use rom_tree::{is_dot, is_dot_dot, is_dots};
 use std::alloc::Global;
 

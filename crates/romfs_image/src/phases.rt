@@ -10,9 +10,8 @@ use crate::depth::least_too_deep;
 use crate::names::least_name_fault;
 use crate::overlap::least_overlap;
 use record_forest::Row;
-use rom_faults::Fault;
-use rom_faults::fault::OVERLAP;
-use rom_fields::OutOfMemory;
+use rom_fields::fault::OVERLAP;
+use rom_fields::{Fault, OutOfMemory};
 use std::alloc::Global;
 
 /// The rows that are in lists: all of them if the root is the first of its own list, otherwise all

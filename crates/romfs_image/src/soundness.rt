@@ -11,7 +11,7 @@ ghost use Rattle.romfs_format.specs.Record.{HasRecordFault};
 
 use crate::accessible::Accessible;
 use crate::fields::name_len;
-use rom_faults::fault::{BAD_NAME, BOUNDS, HEADER_SUM, LINK_SIZE};
+use rom_fields::fault::{BAD_NAME, BOUNDS, HEADER_SUM, LINK_SIZE};
 use rom_fields::word_sum;
 
 /// The length of the name of a whole record, and the offset at which the record ends.

@@ -9,8 +9,7 @@ ghost use Rattle.romfs_format.specs.Superblock.{HasImageFault};
 
 use crate::accessible::Accessible;
 use memchr::memchr;
-use rom_faults::{Fault, fault};
-use rom_fields::word_sum;
+use rom_fields::{Fault, fault, word_sum};
 use romfs_format::superblock::{begins, stated_size};
 
 /// The accessible bytes, if the image can have its stated size.

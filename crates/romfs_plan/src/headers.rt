@@ -1,7 +1,7 @@
 //! The headers of a romfs image.
 ghost use Rattle.std.specs.Prelude.{◌≡◌, ◌+◌, ◌<◌, ◌≤◌, ◌^◌, ◌++◌, IfOk, OnOk, length, map};
 ghost use Rattle.plan_rows.specs.Rows.{bytes_view, inode_view, row_view};
-ghost use Rattle.plan_types.specs.Views.{item_view, fill_view};
+ghost use Rattle.manifest_layout.specs.Views.{item_view, fill_view};
 ghost use Rattle.romfs_layout.specs.Items.{item_of};
 ghost use Rattle.romfs_layout.specs.Layout.{code_of, device_of, header_alone, mode_bit, number_of};
 ghost use Rattle.romfs_plan.specs.Headers.{leaf_header, directory_headers, headers_by};
@@ -10,8 +10,8 @@ ghost use Rattle.romfs_plan.specs.Headers.{noted, IsNear, IsFineRow};
 
 use crate::places::{Place, record_len};
 use manifest::Name;
+use manifest_layout::{Fill, Item};
 use plan_rows::{Bytes, Inode, Row, What};
-use plan_types::{Fill, Item};
 use rom_fields::OutOfMemory;
 use rom_tree::Kind;
 use std::alloc::Global;

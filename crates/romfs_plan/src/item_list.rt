@@ -3,7 +3,7 @@ ghost use Rattle.std.specs.Prelude.{◌≡◌, ◌++◌, ℕ, List, IfOk, OnOk, 
 ghost use Rattle.std.specs.List.{All};
 ghost use Rattle.manifest_tree.specs.Names.{Names};
 ghost use Rattle.plan_rows.specs.Rows.{rows as rows_of, inode_view, row_view};
-ghost use Rattle.plan_types.specs.Views.{item_view};
+ghost use Rattle.manifest_layout.specs.Views.{item_view};
 ghost use Rattle.romfs_layout.specs.Items.{item_of, items_of};
 ghost use Rattle.romfs_layout.specs.Layout.{place_with};
 ghost use Rattle.romfs_layout.specs.Planned.{IsPlanned};
@@ -14,8 +14,8 @@ use crate::headers::{push_root, push_row};
 use crate::passes::{DEPTHS, places_of};
 use crate::places::Place;
 use crate::size::root_at;
+use manifest_layout::Item;
 use plan_rows::{Inode, Row, What};
-use plan_types::Item;
 use rom_fields::OutOfMemory;
 use std::alloc::Global;
 use std::collections::BTreeMap;

@@ -3,13 +3,13 @@ ghost use Rattle.std.specs.Prelude.{◌≡◌, ◌<◌, IfOk, map, length};
 ghost use Rattle.std.specs.List.{AllByRecursion as Every};
 ghost use Rattle.std.specs.Option.{option_map, option_to_list};
 ghost use Rattle.manifest_tree.specs.Items.{section, record_of, bytes_section};
-ghost use Rattle.plan_types.specs.Views.{item_view, section_view};
+ghost use Rattle.manifest_layout.specs.Views.{item_view, section_view};
 ghost use Rattle.romfs_layout.specs.Items.{sections_of};
 ghost use Rattle.romfs_layout.specs.Layout.{record_len};
 
 use crate::places::record_len;
 use crate::size::root_at;
-use plan_types::{Body, Fill, Item, Section};
+use manifest_layout::{Body, Fill, Item, Section};
 use rom_fields::OutOfMemory;
 use std::alloc::Global;
 

@@ -21,12 +21,12 @@ use Rattle.manifest_layout.specs.Format.{len_of, sections_of}
 use Rattle.manifest_layout.specs.Format as of_format
 use Rattle.manifest_layout.specs.Misfit.{HasNoMisfit}
 use Rattle.manifest_layout.specs.Format.{IsPlannedBy}
-use Rattle.plan_types.specs.Plans.{Planned, IsPlanOf, IsPlan}
+use Rattle.manifest_layout.specs.Plans.{Planned, IsPlanOf, IsPlan}
 use Rattle.romfs_write.specs.Form.{item_end, full_size}
 use Rattle.romfs_write.specs.Known.{IsRomfsPlan}
 use Rattle.romfs_write.proofs.Sections.{are_parts}
-use Rattle.plan_types.proofs.Sized.{Fitting, zeros, lengths}
-use Rattle.plan_types.proofs.SourceSizes.{sizes_small}
+use Rattle.manifest_layout.proofs.Sized.{Fitting, zeros, lengths}
+use Rattle.manifest_layout.proofs.SourceSizes.{sizes_small}
 
 -- the end of the last of some headers, with its bytes
 abbrev last_end : ℕ → List Header → ℕ

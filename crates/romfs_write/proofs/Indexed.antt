@@ -2,8 +2,8 @@
 use Rattle.std.proofs.Common.{◌≡◌, ℕ, zero, suc, ◌<◌, List, [], ◌∷◌, map, length, get_or, refl, sym, ◌∙◌, arith}
 use Rattle.manifest_tree.specs.Items.{Item, Section, record_of}
 use Rattle.manifest_tree.specs.Bodies.{item_at}
-use Rattle.plan_types.specs.declared.item.Item as code_item
-use Rattle.plan_types.specs.Views.{item_view}
+use Rattle.manifest_layout.specs.declared.item.Item as code_item
+use Rattle.manifest_layout.specs.Views.{item_view}
 use Rattle.image_stream.specs.Segments.{segment_at}
 use Rattle.romfs_layout.specs.Layout.{record_len}
 use Rattle.romfs_layout.proofs.ReadBack.{length-header}

@@ -7,7 +7,7 @@ use Rattle.image_stream.specs.Segments.{place, len, segment_at, SegmentsRise, Ha
 use Rattle.manifest_tree.specs.Names.{Fill, bytes_of}
 use Rattle.manifest_tree.specs.Items.{Item, Section, Body, super, record_of, table_of, text_of, contents_of}
 use Rattle.manifest_tree.specs.Items.{SectionsRise}
-use Rattle.plan_types.specs.Plans.{Planned}
+use Rattle.manifest_layout.specs.Plans.{Planned}
 use Rattle.romfs_layout.specs.Layout.{root_at}
 use Rattle.romfs_write.specs.Form.{full_size, segment_by, segment_of, form_of}
 use Rattle.romfs_write.specs.Known.{IsBody, IsRomfsPlan}

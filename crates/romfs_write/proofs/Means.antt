@@ -17,7 +17,7 @@ use Rattle.image_stream.specs.WordSums.{weighted, weight, balance_of, term}
 use Rattle.image_stream.proofs.Laid.{image_laid}
 use Rattle.image_stream.proofs.ByWords.{weighted_words}
 use Rattle.manifest_tree.specs.Names.{Fill, Inode, Names, bytes_of}
-use Rattle.plan_types.specs.Plans.{Planned, IsPlanOf}
+use Rattle.manifest_layout.specs.Plans.{Planned, IsPlanOf}
 use Rattle.manifest_tree.specs.Items.{Item, Section, Body, super, record_of, table_of, text_of, contents_of, section}
 use Rattle.manifest_tree.specs.Items.{SectionsRise}
 use Rattle.manifest_tree.specs.Bodies.{item_at}
@@ -38,7 +38,7 @@ use Rattle.romfs_layout.proofs.ReadBack.{length-padded_name}
 use Rattle.romfs_layout.proofs.Composed.{is_composed, are_long}
 use Rattle.romfs_layout.proofs.Sectioned as in_romfs
 use Rattle.image_stream.proofs.Results.{sizes_are}
-use Rattle.plan_types.proofs.Sized.{Fitting, size_is}
+use Rattle.manifest_layout.proofs.Sized.{Fitting, size_is}
 use Rattle.romfs_write.proofs.Facts.{planned_by, planned_is, full_is}
 use Rattle.romfs_write.proofs.Laid.{laid_out}
 

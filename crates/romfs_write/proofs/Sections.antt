@@ -9,7 +9,7 @@ use Rattle.manifest_tree.specs.Names.{Fill, no_bytes, text, source, bytes_of}
 use Rattle.manifest_tree.specs.Items.{Item, Section, fill_section, bytes_section}
 use Rattle.manifest_tree.specs.Bodies.{item_at}
 use Rattle.manifest_tree.proofs.Bodies.{item_here, items_later}
-use Rattle.plan_types.proofs.Sized.{size_is}
+use Rattle.manifest_layout.proofs.Sized.{size_is}
 use Rattle.romfs_write.specs.Known.{IsBody}
 use Rattle.romfs_layout.specs.Layout.{Header}
 use Rattle.romfs_layout.specs.Composed.{written}

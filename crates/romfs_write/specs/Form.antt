@@ -3,7 +3,7 @@
 use Rattle.std.specs.Prelude.{ℕ, ◌+◌, ◌-◌, List, [], ◌++◌, map, length, drop}
 use Rattle.byteorder.specs.Endian.{big_bytes}
 use Rattle.image_stream.specs.Segments.{Segment, fixed, content, Form}
-use Rattle.plan_types.specs.Plans.{Planned}
+use Rattle.manifest_layout.specs.Plans.{Planned}
 use Rattle.manifest_tree.specs.Bodies.{item_at}
 use Rattle.manifest_tree.specs.Items.{Item, Section, Body, super, record_of, table_of, text_of}
 use Rattle.manifest_tree.specs.Items.{contents_of}

@@ -3,7 +3,7 @@ use Rattle.std.specs.Prelude.{◌≡◌, ℕ, ◌+◌, ◌^◌, ◌<◌, List, �
 use Rattle.std.specs.List.{AllByRecursion as Every}
 use Rattle.manifest_tree.specs.Names.{text}
 use Rattle.rom_fields.specs.Padding.{pad}
-use Rattle.plan_types.specs.Plans.{Planned}
+use Rattle.manifest_layout.specs.Plans.{Planned}
 use Rattle.manifest_tree.specs.Items.{Item, Body, super, record_of, table_of, text_of, contents_of}
 use Rattle.manifest_tree.specs.Items.{section, SectionsRise}
 use Rattle.manifest_tree.specs.Bodies.{item_at}

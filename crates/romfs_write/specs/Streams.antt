@@ -11,7 +11,7 @@ use Rattle.manifest.specs.Grammar.{IsManifest}
 use Rattle.manifest.specs.Lines.{ManifestLines}
 use Rattle.formats.specs.Format.{romfs}
 use Rattle.manifest_layout.specs.Format.{layout_of}
-use Rattle.plan_types.specs.Plans.{Planned, IsPlanOf}
+use Rattle.manifest_layout.specs.Plans.{Planned, IsPlanOf}
 use Rattle.romfs_write.specs.Form.{form_of}
 
 -- The superblock and the segments of a plan are streamed (`streams`). If the contents of the

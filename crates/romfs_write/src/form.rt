@@ -6,7 +6,7 @@ ghost use Rattle.manifest_tree.specs.Bodies.{item_at};
 ghost use Rattle.manifest_tree.specs.Items.{section, super};
 ghost use Rattle.formats.specs.Format.{romfs};
 ghost use Rattle.manifest_tree.specs.Names.{bytes_of};
-ghost use Rattle.plan_types.specs.Views.{fill_view, item_view, section_view};
+ghost use Rattle.manifest_layout.specs.Views.{fill_view, item_view, section_view};
 ghost use Rattle.romfs_format.specs.Record.{pad16};
 ghost use Rattle.romfs_layout.specs.Composed.{written};
 ghost use Rattle.romfs_layout.specs.Layout.{record_len};
@@ -15,7 +15,7 @@ ghost use Rattle.romfs_write.specs.Known.{IsBody, IsRomfsPlan};
 
 use crate::header::{put_header, put_superblock};
 use image_stream::{Outline, Segmented};
-use plan_types::{Body, Fill, Item, Plan, Section};
+use manifest_layout::{Body, Fill, Item, Plan, Section};
 
 /// The plan of a romfs image.
 #[derive(Clone, Copy)]

@@ -5,12 +5,12 @@ ghost use Rattle.manifest.specs.Grammar.{IsManifest};
 ghost use Rattle.manifest.specs.Lines.{ManifestLines};
 ghost use Rattle.formats.specs.Format.{romfs};
 ghost use Rattle.manifest_layout.specs.Format.{layout_of};
-ghost use Rattle.plan_types.specs.Plans.{IsPlanOf};
+ghost use Rattle.manifest_layout.specs.Plans.{IsPlanOf};
 ghost use Rattle.romfs_write.specs.Streams.{StreamsPlan};
 
 use crate::form::{RomfsForm, facts};
 use image_stream::{SizeDiffers, Sources, StreamError, WordSum};
-use plan_types::Plan;
+use manifest_layout::Plan;
 use rom_fields::{ByteWrite, Contents};
 
 /// Writes the image of a plan, with these contents of its files, into a buffer of its length,

@@ -8,7 +8,7 @@ use Rattle.atomic_file.specs.declared.account.Account.{Account}
 use Rattle.build_commands.specs.Built.{IsBuilt}
 use Rattle.build_commands.specs.declared.limits.Foreseen.{Foreseen}
 use Rattle.build_commands.specs.declared.limits.Wanted.{Wanted}
-use Rattle.plan_types.specs.Plans.{Planned}
+use Rattle.manifest_layout.specs.Plans.{Planned}
 use Rattle.romtool.specs.declared.placed.Placed.{Placed}
 use Rattle.romtool.specs.declared.placed.Placed.TheVariants.{Renamed, Written}
 use Rattle.romtool.specs.Placed.{IsRenamedAs, IsWrittenAs}

@@ -13,5 +13,6 @@ asked_of question.Facts len = asked.Facts len
 asked_of (question.Fit limit) len = asked.Fit len limit
 asked_of (question.Runs base) len = asked.Map base
 asked_of question.Misreads len = asked.Misreads
+asked_of question.Needs len = asked.Needs
 asked_of (question.InPlace x) len =
     asked.Programs (record { base = x.base; no_mmu = x.no_mmu; advice = x.advice })

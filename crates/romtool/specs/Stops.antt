@@ -21,6 +21,7 @@ IsAfterLine (line.File name) s = s ≡ status.Failed
 IsAfterLine (line.BadManifest number fault) s = is_refusal s ≡ true
 IsAfterLine (line.Misfit number misfit) s = is_refusal s ≡ true
 IsAfterLine (line.Unfit counts) s = s ≡ status.Refused
+IsAfterLine (line.Needs unmet) s = is_refusal s ≡ true
 
 -- the status of a command that stops. What an image is asked for decides how its fault is said.
 abbrev pub IsAfter : Stop → Status → Type 0

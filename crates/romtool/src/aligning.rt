@@ -6,9 +6,9 @@ use build_commands::inventory::{FileKind, NamedFile, align_of};
 use elf_format::{HEAD_LEN, needs_pages};
 use system_files::{Identity, Refusal, elf_front};
 
-/// Whether a file of these bytes is an ELF file.
-fn is_elf(bytes: &[u8]) -> bool {
-    bytes.starts_with(b"\x7fELF")
+/// Whether a file of these bytes is an ELF file, or a script that names an interpreter.
+fn is_program(bytes: &[u8]) -> bool {
+    bytes.starts_with(b"\x7fELF") || bytes.starts_with(b"#!")
 }
 
 /// How the alignments of files are found.
@@ -19,11 +19,11 @@ pub struct AlignRules<'a> {
     pub align: u32,
 }
 
-/// What a regular file is: its alignment, and whether it is an ELF file, if that was looked at.
+/// What a regular file is: its alignment, and whether it is a program, if that was looked at.
 #[derive(Clone, Copy)]
 struct Looked {
     align: u32,
-    is_elf: bool,
+    is_program: bool,
 }
 
 /// Looks at a regular file. It is opened only if no pattern decides, or programs are noted.
@@ -42,7 +42,7 @@ fn looked_at(
         let align = chosen.unwrap_or(align_of(false, rules.align));
         return Ok(Looked {
             align,
-            is_elf: false,
+            is_program: false,
         });
     }
     let found = Identity::at(file.inode.device, file.inode.number);
@@ -53,13 +53,13 @@ fn looked_at(
     };
     Ok(Looked {
         align,
-        is_elf: is_elf(&front),
+        is_program: is_program(&front),
     })
 }
 
 /// Returns the alignment of each file, in bytes: of a regular file that of the last pattern that
 /// matches its path; otherwise this one if the file is a program or a library that is executed in
-/// place. Notes which are ELF files, if these are noted.
+/// place. Notes which are programs, if these are noted.
 ///
 /// # Errors
 ///
@@ -79,7 +79,7 @@ pub fn alignments(
         let looked = looked_at(rt, rules, file, states.notes_programs());
         let looked = named(rt.alloc(), &file.place, looked)?;
         aligns.push(looked.align)?;
-        if looked.is_elf {
+        if looked.is_program {
             states.note_program(&file.place);
         }
     }

@@ -12,6 +12,8 @@ pub struct Asked<'a> {
     /// The name of the manifest's file.
     pub manifest: &'a str,
     pub out: &'a str,
+    /// Whether a program that needs a file which the image would not have is refused.
+    pub needs: bool,
     /// Whether a source that is a symbolic link is refused.
     pub no_follow: bool,
     /// The file for the rule for make, if one is asked for.
@@ -25,6 +27,7 @@ impl<'a> Asked<'a> {
         ensures sources { result.wanted.sources ≡ build.entry.sources }
         ensures strict { result.wanted.strict ≡ build.entry.strict }
         ensures xip { result.wanted.xip ≡ build.entry.xip }
+        ensures needs { result.needs ≡ build.entry.needs }
         ensures max_size { result.wanted.max_size ≡ build.entry.max_size }
         ensures partition { result.wanted.partition ≡ option_map filled build.entry.padding }
     {
@@ -42,6 +45,7 @@ impl<'a> Asked<'a> {
             },
             manifest: build.manifest,
             out: build.out,
+            needs: build.needs,
             no_follow: build.no_follow,
             depfile: build.depfile,
         }

@@ -7,12 +7,13 @@ ghost use Rattle.build_commands.specs.Sources.{opened_as};
 ghost use Rattle.formats.specs.Format.{format_of};
 ghost use Rattle.manifest.specs.Grammar.{manifest_of};
 ghost use Rattle.manifest.specs.Lines.{sources_of};
-ghost use Rattle.plan_types.specs.Plans.{IsPlanOf};
+ghost use Rattle.manifest_layout.specs.Plans.{IsPlanOf};
 
 use crate::asked::Asked;
 use crate::contents::Shares;
 use crate::files::{Files, INPUT, Kept, kept_names, kept_states, not_taken};
 use crate::in_place::{Unknown, programs_planned};
+use crate::needed::{self, Unmet, unmet_in};
 use crate::origin::Origin;
 use crate::output::{coloured_lines, lines};
 use crate::placing::{self, FillError, KeptWith};
@@ -32,7 +33,7 @@ use command_line::Build;
 use image_build::Unwritten;
 use layout_plan::{PlanError, plan};
 use manifest::{Manifest, ManifestError, parse};
-use plan_types::{Format, Plan};
+use manifest_layout::{Format, Plan};
 use rom_commands::Status;
 use sentences::reasons::{OWN_INPUT, OWN_OUTPUT, PART_REPLACED};
 use std::alloc::{AllocError, Global};
@@ -413,6 +414,47 @@ fn check_programs(
     }
 }
 
+/// Returns what programs need that a planned image would not have, if something is to be said of
+/// it: `--needs`, or the warnings of a scan that is explained.
+fn needs_in(
+    rt: &HostRuntime,
+    asked: Asked<'_>,
+    files: Files<'_>,
+    words: &Words,
+) -> Result<Vec<Unmet>, Stop> {
+    let is_told = files.origin.scanned.is_some() && words.are_asked();
+    if !asked.needs && !is_told {
+        return Ok(Vec::new(rt.alloc()));
+    }
+    let format = asked.wanted.format;
+    match unmet_in(rt, format, files.origin, files.names, files.stamps) {
+        Ok(unmet) => Ok(unmet),
+        Err(Unknown::Memory) => Err(Stop::Memory),
+        Err(Unknown::Source(file, e)) => Err(files.fault(rt, file, Some(e))),
+    }
+}
+
+/// Refuses programs that need files which the image would not have, if that is asked for. Returns
+/// these words with what is only warned of.
+#[inline(never)]
+fn check_needs(
+    rt: &HostRuntime,
+    asked: Asked<'_>,
+    files: Files<'_>,
+    mut words: Words,
+) -> Result<Words, Stop> {
+    let (unmet, origin) = (needs_in(rt, asked, files, &words)?, files.origin);
+    if !asked.needs {
+        needed::explain(&mut words, origin, &unmet, "warning: ");
+        return Ok(words);
+    }
+    needed::explain(&mut words, origin, &unmet, "");
+    match unmet.into_iter().next() {
+        Some(first) => Err(Stop::Told(Line::Needs(first), words)),
+        None => Ok(words),
+    }
+}
+
 /// Builds an image in the file that is asked for, and the rule if one is.
 fn write_files(reporter: &Reporter<'_>, prepared: Prepared<'_>) -> Result<(), Stop> {
     let (rt, files) = (reporter.rt, prepared.files);
@@ -444,6 +486,18 @@ pub struct Built {
     pub sizes: Vec<u64>,
     /// Its programs, if they were looked at.
     pub programs: Option<Programs>,
+}
+
+impl Built {
+    /// Returns the image of this plan, with the sizes of its sources, and its programs.
+    fn of(plan: &Plan, sizes: Vec<u64>, programs: Option<Programs>) -> Built {
+        Built {
+            len: plan.image_len() as u64,
+            shares: Shares::of(plan),
+            sizes,
+            programs,
+        }
+    }
 }
 
 /// Names as texts.
@@ -506,21 +560,18 @@ fn build_from<'a>(
     };
     let found = programs_in(rt, asked, &plan, files, reporter.is_explained())?;
     let programs = check_programs(reporter, asked, origin, &found)?;
+    let words = check_needs(rt, asked, files, reporter.words())?;
     let prepared = Prepared {
         plan: &plan,
         files,
         foreseen: Foreseen { misread, programs },
     };
     write_files(reporter, prepared)?;
+    reporter.tell(&words);
     if let Some(warnings) = &warnings {
         warned::explain(reporter, origin, &sizes, warnings, "warning: ");
     }
-    Ok(Built {
-        len: plan.image_len() as u64,
-        shares: Shares::of(&plan),
-        sizes,
-        programs: found,
-    })
+    Ok(Built::of(&plan, sizes, found))
 }
 
 /// A manifest, its text, and the file of the text.

@@ -2,11 +2,12 @@
 use crate::asked::Asked;
 use crate::building::Built;
 use crate::reporter::Reporter;
+use crate::several::Several;
 use crate::warned::reason_sentence;
 use build_commands::most_bytes;
 use build_commands::programs::{Programs, Unplaced};
 use manifest::{Line, Manifest, Word};
-use plan_types::{Body, Plan};
+use manifest_layout::{Body, Plan};
 use sentences::words::{escaped, shown};
 use std::alloc::{AllocError, Global};
 
@@ -120,15 +121,15 @@ fn add_row(text: &mut String, alloc: Global, bytes: u64, what: &str) -> Result<(
 
 /// Adds which programs are not executed in place, and what helps.
 fn add_unplaced(text: &mut String, alloc: Global, unplaced: &[Unplaced]) -> Result<(), AllocError> {
-    for program in unplaced.iter().take(LARGEST) {
-        let (path, why) = (
-            shown(alloc, &program.path)?,
-            reason_sentence(program.reason),
-        );
-        text.push_str(&format!(in alloc; "not in place: {path}: {why}\n")?)?;
+    let mut several = Several::new(LARGEST as u64);
+    for program in unplaced {
+        if several.says() {
+            let path = shown(alloc, &program.path)?;
+            let why = reason_sentence(program.reason);
+            text.push_str(&format!(in alloc; "not in place: {path}: {why}\n")?)?;
+        }
     }
-    let more = unplaced.len().saturating_sub(LARGEST);
-    if more > 0 {
+    if let Some(more) = several.more() {
         text.push_str(&format!(in alloc; "not in place: {more} more\n")?)?;
     }
     Ok(())

@@ -1,11 +1,11 @@
-//! Regular files with equal bytes, which share their contents in an image. Which of them are
-//! compared, and what becomes of them, is proved in `build_commands::equal`.
+//! Reads regular files that may have equal bytes. Which of them are compared, and what becomes of
+//! them, is proved in `build_commands::{equal, composing}`.
 use crate::stop::{Stop, named, refused};
-use build_commands::equal::{Digest, to_compare};
+use build_commands::equal::Digest;
 use build_commands::inventory::{FileKind, NamedFile};
 use std::alloc::{AllocError, Global};
 use std::collections::BTreeMap;
-use system_files::{Digested, Identity, Reason, Watched, digest_of, files_stayed, unlinked};
+use system_files::{Digested, Identity, Reason, Watched, digest_of, unlinked};
 
 /// What was read of each file with several links, by its device and number.
 type Read = BTreeMap<(u64, u64), Digested>;
@@ -19,13 +19,17 @@ fn len_of(rt: &HostRuntime, file: &NamedFile) -> Result<u64, Stop> {
     Ok(named(rt.alloc(), &file.place, now)?.len())
 }
 
-/// The numbers of bytes of files.
-fn lens_of(rt: &HostRuntime, found: &[NamedFile]) -> Result<Vec<u64>, Stop> {
-    let mut lens = Vec::new(rt.alloc());
+/// Returns the number of bytes of each file, or 0 if it is not regular.
+///
+/// # Errors
+///
+/// `Refused` for a file that cannot be looked at; `Memory`.
+pub fn sizes_of(rt: &HostRuntime, found: &[NamedFile]) -> Result<Vec<u64>, Stop> {
+    let mut sizes = Vec::new(rt.alloc());
     for file in found {
-        lens.push(len_of(rt, file)?)?;
+        sizes.push(len_of(rt, file)?)?;
     }
-    Ok(lens)
+    Ok(sizes)
 }
 
 /// What is read of a file, which is read once if it has several links. It must not change
@@ -53,17 +57,21 @@ fn digested(
     Ok(read)
 }
 
-/// What is read of each file that is compared.
-fn all_digested(
+/// Returns what is read of each file that is compared.
+///
+/// # Errors
+///
+/// `Refused` for a file that cannot be read, or that changes meanwhile; `Memory`.
+pub fn all_digested(
     rt: &HostRuntime,
     found: &[NamedFile],
-    lens: &[u64],
+    sizes: &[u64],
     compared: &[bool],
 ) -> Result<Vec<Option<Digested>>, Stop> {
     let alloc = rt.alloc();
     let (mut by_inode, mut all) = (BTreeMap::new(alloc), Vec::new(alloc));
     for (index, file) in found.iter().enumerate() {
-        let read = match (lens.get(index), compared.get(index)) {
+        let read = match (sizes.get(index), compared.get(index)) {
             (Some(len), Some(true)) => Some(digested(rt, file, *len, &mut by_inode)?),
             _ => None,
         };
@@ -72,8 +80,11 @@ fn all_digested(
     Ok(all)
 }
 
-/// The digests of the files that were read.
-fn digests_of(alloc: Global, read: &[Option<Digested>]) -> Result<Vec<Option<Digest>>, AllocError> {
+/// Returns the digests of the files that were read.
+pub fn digests_of(
+    alloc: Global,
+    read: &[Option<Digested>],
+) -> Result<Vec<Option<Digest>>, AllocError> {
     let mut digests = Vec::new(alloc);
     for file in read {
         digests.push(file.map(|(digest, _)| digest))?;
@@ -81,9 +92,9 @@ fn digests_of(alloc: Global, read: &[Option<Digested>]) -> Result<Vec<Option<Dig
     Ok(digests)
 }
 
-/// The files that were read, in the states in which they were read. Those that became further names
-/// are no sources.
-fn watched_of(
+/// Returns the files that were read, in the states in which they were read. Those that became
+/// further names are no sources.
+pub fn watched_of(
     alloc: Global,
     found: &[NamedFile],
     read: &[Option<Digested>],
@@ -99,24 +110,5 @@ fn watched_of(
             })?;
         }
     }
-    Ok(watched)
-}
-
-/// Makes each regular file whose bytes and attributes are those of an earlier one a further name of
-/// it, so that the manifest stores the bytes once, and returns the files that were read: those of
-/// equal length.
-///
-/// # Errors
-///
-/// `Failed` for a file that changes meanwhile; `Refused`, `Memory`.
-pub fn share_equal(rt: &HostRuntime, found: &mut [NamedFile]) -> Result<Vec<Watched>, Stop> {
-    let alloc = rt.alloc();
-    let lens = lens_of(rt, found)?;
-    let compared = to_compare(alloc, found, &lens)?;
-    let read = all_digested(rt, found, &lens, &compared)?;
-    let digests = digests_of(alloc, &read)?;
-    let further = build_commands::equal::share_equal(alloc, found, &lens, &digests)?;
-    let watched = watched_of(alloc, found, &read, &further)?;
-    files_stayed(rt, &watched)?;
     Ok(watched)
 }

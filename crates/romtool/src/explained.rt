@@ -7,7 +7,7 @@ use crate::several::Several;
 use crate::words::Words;
 use layout_plan::misfits;
 use manifest::bad_lines;
-use plan_types::Format;
+use manifest_layout::Format;
 use sentences::{manifest_line, manifest_sentence, misfit_sentence, plan_line};
 use std::alloc::AllocError;
 use std::fmt::Display;

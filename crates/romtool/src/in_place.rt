@@ -2,14 +2,14 @@
 use crate::origin::Origin;
 use crate::watched::States;
 use build_commands::programs::{Programs, Spot, programs_of, spots_of};
-use plan_types::Plan;
+use manifest_layout::Plan;
 use program_report::{Verdict, verdict_at};
 use rom_fields::OutOfMemory;
 use std::alloc::{AllocError, AllocFailed};
-use system_files::{Refusal, Stamp, elf_in};
+use system_files::{Refusal, Stamp, program_in};
 
 /// The most bytes of a program.
-const MOST: u64 = 1 << 32;
+pub const MOST: u64 = 1 << 32;
 
 /// Why it is not known which programs would be executed in place.
 #[derive(Drop)]
@@ -46,13 +46,13 @@ fn verdict_of(is_romfs: bool, place: u32, bytes: &[u8]) -> Option<Verdict> {
     verdict_at(is_romfs, u64::from(place), bytes)
 }
 
-/// Whether the source of this name may be an ELF file, by what a scan noted, if there was one.
-fn may_be_program(states: Option<&States>, name: &str) -> bool {
+/// Returns whether the source of this name may be a program, by what a scan noted, if any.
+pub fn may_be_program(states: Option<&States>, name: &str) -> bool {
     states.is_none_or(|states| states.may_be_program(name))
 }
 
 /// Returns the verdict on each source that is a program. The sources have these names, states and
-/// spots. If a scan noted which of them are ELF files, only these are opened.
+/// spots. If a scan noted which of them are programs, only these are opened.
 fn verdicts_of(
     rt: &HostRuntime,
     is_romfs: bool,
@@ -67,7 +67,7 @@ fn verdicts_of(
             verdicts.push(None)?;
             continue;
         }
-        let verdict = match elf_in(rt, name, stamp, MOST) {
+        let verdict = match program_in(rt, name, stamp, MOST) {
             Ok(Some(bytes)) => verdict_of(is_romfs, spot.place, &bytes),
             Ok(None) => None,
             Err(e) if e.is_memory() => return Err(Unknown::Memory),

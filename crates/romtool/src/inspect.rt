@@ -24,11 +24,10 @@ use rom_commands::{
     print_digests, print_extents, print_file, print_header, print_image_digest, print_numbers,
     print_picture, print_places, print_script, verify_dump,
 };
-use rom_faults::{CheckError, Fault};
-use rom_fields::{ByteWrite, Plain, put};
+use rom_fields::{ByteWrite, CheckError, Fault, Plain, put};
 use rom_tree::{Limits, TreeImage};
 use sentences::image::range_seen;
-use sentences::reasons::{MISREAD, NO_ADDRESS, NO_PREFIX, NOT_IN_PLACE, TERMINAL};
+use sentences::reasons::{MISREAD, NEEDED, NO_ADDRESS, NO_PREFIX, NOT_IN_PLACE, TERMINAL};
 use sentences::words::escaped;
 use sentences::{Noted, TextSeen};
 use std::alloc::Global;
@@ -129,8 +128,8 @@ fn explain_lines(
     words.add(name, &why);
 }
 
-/// Adds why a valid image was refused: Linux misreads it, does not execute a program in place, or
-/// it does not fit.
+/// Adds why a valid image was refused: Linux misreads it, or does not execute a program in place, a
+/// program needs a file that it does not have, or it does not fit.
 fn explain_warning(
     words: &mut Words,
     name: &[u8],
@@ -143,26 +142,26 @@ fn explain_warning(
 {
     match (asked, answer) {
         (Asked::Misreads, _) => explain_lines(words, name, answer, asked, MISREAD),
+        (Asked::Needs, _) => words.add(name, &NEEDED),
         (Asked::Programs(_), _) => explain_lines(words, name, answer, asked, NOT_IN_PLACE),
         (Asked::Fit { limit, .. }, Ok(image)) => explain_size(words, name, image, limit),
         _ => {}
     }
 }
 
-/// Explains how long the output for an image will be, if it is long.
-fn explain_totals(
-    reporter: &Reporter<'_>,
+/// Adds how long the output for an image will be, if it is long.
+fn with_totals(
+    mut words: Words,
     name: &[u8],
     answer: &Result<AnyImage<'_>, CheckError>,
     asked: Asked,
-)
+) -> Words
     requires { IfOk answer.now (λ v. IsShallow (any_view v).tree) }
 {
     if let Ok(image) = answer {
-        let mut words = reporter.words();
         totals::explain(&mut words, name, image, asked);
-        reporter.tell(&words);
     }
+    words
 }
 
 /// Prints what is asked of the image in these bytes of the file of this name, which is checked
@@ -177,7 +176,7 @@ pub fn show(
 {
     let (rt, mut err) = (reporter.rt, errors(reporter.rt));
     let answer = check_usual(rt.alloc(), bytes);
-    explain_totals(reporter, name, &answer, asked);
+    reporter.tell(&with_totals(reporter.words(), name, &answer, asked));
     let ending = if asked == Asked::Report && has_colours(rt) {
         print_answer(
             rt.alloc(),

@@ -16,6 +16,7 @@ pub fn asked_of(question: Question, len: u64) -> Asked
         Question::Fit(limit) => Asked::Fit { file: len, limit },
         Question::Runs(base) => Asked::Map(base),
         Question::Misreads => Asked::Misreads,
+        Question::Needs => Asked::Needs,
         Question::InPlace(programs) => Asked::Programs(program_report::Question {
             base: programs.base,
             no_mmu: programs.no_mmu,

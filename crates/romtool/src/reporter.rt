@@ -5,11 +5,12 @@ ghost use Rattle.rom_commands.specs.Endings.{status_of};
 ghost use Rattle.romtool.specs.Stops.{IsAfter, IsAfterLine, is_refusal};
 
 use crate::arguments::NoWords;
+use crate::needed::Unmet;
 use crate::output::{coloured_lines, errors, lines};
 use crate::stop::{FrontOf, Line, Noted, Stop};
 use crate::warned;
 use crate::words::{Words, refusal_words, words_of};
-use build_commands::{print_bad_manifest, print_misfit, print_size, print_unfit};
+use build_commands::{print_bad_manifest, print_misfit, print_needs, print_size, print_unfit};
 use command_line::{WordsError, is_explain, shown};
 use program_streams::Held;
 use rom_commands::{Ending, Status, refuse, refuse_in, report};
@@ -343,6 +344,9 @@ impl<'a> Reporter<'a> {
             }
             Line::Misfit { line, number } => {
                 self.printed(print_misfit(&mut lines(self.rt), line, number))
+            }
+            Line::Needs(Unmet { line, path, name }) => {
+                self.printed(print_needs(&mut lines(self.rt), line, &path, &name))
             }
             Line::Unfit(counts) => {
                 // the status says it, even if standard error accepts no line

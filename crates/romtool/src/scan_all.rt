@@ -1,30 +1,25 @@
 //! The manifest of directories as they are.
-ghost use Rattle.std.specs.Prelude.{IfOk};
-ghost use Rattle.build_commands.specs.Overlay.{AreInOrder};
-
-use crate::aligning::{AlignRules, alignments};
 use crate::depfile;
-use crate::devices::{refuse, text_of_file};
-use crate::equal::share_equal;
+use crate::devices::refuse;
 use crate::inventory::all_below;
 use crate::output::output;
 use crate::patterns::Patterns;
+use crate::readings::ScanReadings;
 use crate::reporter::Reporter;
 use crate::stop::{Stop, changed, failed, refused, unopened, usage};
 use crate::unfit::Unfit;
 use crate::watched::States;
 use crate::words::Words;
 use crate::written::files_written;
-use build_commands::alignments::{align_all, share_alignments};
+use build_commands::Rule;
+use build_commands::composing::{self, ComposeError, DeviceText, compose};
 use build_commands::inventory::{FileKind, NamedFile, lines, put_found};
-use build_commands::laying::{LayError, lay_list, lay_table};
-use build_commands::overlay::{OverlayError, is_directory, laid_over};
-use build_commands::rights::own_all;
-use build_commands::{Rule, devices};
-use command_line::{Owner, ScanAll};
+use build_commands::laying::LayError;
+use build_commands::overlay::is_directory;
+use command_line::ScanAll;
 use manifest::Entry;
 use rom_commands::Status;
-use rom_fields::{Failed, OutOfMemory, Plain};
+use rom_fields::{Failed, Plain};
 use sentences::reasons::{
     KINDS_DIFFER, LONG_NAME, MANIFEST_NOT_TAKEN, OWN_FILE, OWN_STREAM, PART_REPLACED,
 };
@@ -40,17 +35,6 @@ const DEVICE: &str = "--device";
 /// The most bytes of a volume's name.
 const MOST_VOLUME: usize = 255;
 
-/// Lays files over one another. Refuses a file that cannot replace another one.
-fn laid(alloc: Global, found: Vec<NamedFile>) -> Result<Vec<NamedFile>, Stop>
-    ensures { IfOk result (λ v. AreInOrder v.items) }
-{
-    match laid_over(alloc, found) {
-        Ok(laid) => Ok(laid),
-        Err(OverlayError::OutOfMemory) => Err(Stop::Memory),
-        Err(OverlayError::Kinds(file)) => Err(failed(alloc, &file.place, KINDS_DIFFER)),
-    }
-}
-
 /// Refuses directories whose owners and devices would be wrong, since fakeroot or pseudo is asked
 /// for and is not in this program.
 fn check_faked(rt: &HostRuntime, directories: &[&str]) -> Result<(), Stop> {
@@ -59,43 +43,6 @@ fn check_faked(rt: &HostRuntime, directories: &[&str]) -> Result<(), Stop> {
         return Err(refused(rt.alloc(), first, Reason::Faked));
     }
     Ok(())
-}
-
-/// Sets the owner of all files, if one is given.
-fn own(found: &mut Vec<NamedFile>, owner: Option<Owner>)
-    ensures { AreInOrder found.old.items → AreInOrder found.new.items }
-{
-    if let Some(owner) = owner {
-        own_all(found, owner.uid, owner.gid);
-    }
-}
-
-/// Sets the alignments of all files.
-fn align(alloc: Global, found: &mut Vec<NamedFile>, aligns: &[u32]) -> Result<(), OutOfMemory>
-    ensures { AreInOrder found.old.items → AreInOrder found.new.items }
-{
-    align_all(alloc, found, aligns)
-}
-
-/// Sets the owner and the alignment of each file that was found.
-fn prepared(
-    rt: &HostRuntime,
-    scan: &ScanAll<'_>,
-    patterns: &Patterns,
-    mut found: Vec<NamedFile>,
-    states: &mut States,
-) -> Result<Vec<NamedFile>, Stop>
-    requires { AreInOrder found.items }
-    ensures { IfOk result (λ v. AreInOrder v.items) }
-{
-    own(&mut found, scan.owner);
-    let rules = AlignRules {
-        patterns,
-        align: scan.align,
-    };
-    let aligns = alignments(rt, rules, &found, states)?;
-    align(rt.alloc(), &mut found, &aligns)?;
-    Ok(found)
 }
 
 /// Reports why a list or a table in the file of this name, which has this text, is refused.
@@ -107,49 +54,33 @@ fn unlaid(reporter: &Reporter<'_>, name: &str, text: &[u8], why: LayError) -> St
     }
 }
 
-/// Lays what the list of this name says, which has this text, over the files that were found.
-fn with_list(
-    reporter: &Reporter<'_>,
-    name: &str,
-    text: &[u8],
-    found: Vec<NamedFile>,
-) -> Result<Vec<NamedFile>, Stop>
-    requires { AreInOrder found.items }
-    ensures { IfOk result (λ v. AreInOrder v.items) }
-{
-    match lay_list(reporter.rt.alloc(), found, text) {
-        Ok(laid) => Ok(laid),
-        Err(why) => Err(unlaid(reporter, name, text, why)),
+/// The name of a text of devices.
+fn name_of<'a>(scan: &ScanAll<'a>, which: DeviceText) -> &'a str {
+    match which {
+        DeviceText::Table => scan.device_table.unwrap_or(""),
+        DeviceText::List => scan.devices.unwrap_or(""),
+        DeviceText::Given => DEVICE,
     }
 }
 
-/// Lays what the table of devices, the list of devices, and the devices that are given one by one
-/// say over the files that were found.
-fn with_devices(
-    reporter: &Reporter<'_>,
-    scan: &ScanAll<'_>,
-    mut found: Vec<NamedFile>,
-    watched: &mut Vec<Watched>,
-) -> Result<Vec<NamedFile>, Stop>
-    requires { AreInOrder found.items }
-{
-    let alloc = reporter.rt.alloc();
-    if let Some(name) = scan.device_table {
-        let text = text_of_file(reporter.rt, name, watched)?;
-        found = match lay_table(alloc, found, &text) {
-            Ok(laid) => laid,
-            Err(why) => return Err(unlaid(reporter, name, &text, why)),
-        };
+/// Why the files of a manifest cannot be put together.
+fn uncomposed(reporter: &Reporter<'_>, scan: &ScanAll<'_>, why: ComposeError<Stop>) -> Stop {
+    match why {
+        ComposeError::OutOfMemory => Stop::Memory,
+        ComposeError::Kinds(file) => failed(reporter.rt.alloc(), &file.place, KINDS_DIFFER),
+        ComposeError::Unlaid(which, text, why) => {
+            unlaid(reporter, name_of(scan, which), &text, why)
+        }
+        ComposeError::Unread(stop) => stop,
     }
-    if let Some(name) = scan.devices {
-        let text = text_of_file(reporter.rt, name, watched)?;
-        found = with_list(reporter, name, &text, found)?;
-    }
-    if scan.added.is_empty() {
-        return Ok(found);
-    }
-    let text = devices::list_for(alloc, &scan.added)?;
-    with_list(reporter, DEVICE, &text, found)
+}
+
+/// The owner that all files get, if one is given.
+fn owner_of(scan: &ScanAll<'_>) -> Option<composing::Owner> {
+    scan.owner.map(|owner| composing::Owner {
+        uid: owner.uid,
+        gid: owner.gid,
+    })
 }
 
 /// What a scan found.
@@ -164,8 +95,8 @@ struct Found {
     states: States,
 }
 
-/// Returns what a scan finds. Files of these names are written. The names of ELF files are noted
-/// if that is asked for.
+/// Returns what a scan finds. Files of these names are written. The names of ELF files and scripts
+/// are noted if that is asked for.
 fn all_found(
     reporter: &Reporter<'_>,
     scan: &ScanAll<'_>,
@@ -183,17 +114,23 @@ fn all_found(
         file.check(rt, &found.files, &patterns)?;
     }
     let directories = directories_of(rt, &found.files)?;
-    let mut states = States::of(alloc, &found.files, &found.states, notes_programs)?;
-    let found = laid(alloc, found.files)?;
-    let found = prepared(rt, scan, &patterns, found, &mut states)?;
-    let mut watched = Vec::new(alloc);
-    let mut files = with_devices(reporter, scan, found, &mut watched)?;
-    if scan.dedupe {
-        for file in share_equal(rt, &mut files)? {
-            watched.push(file)?;
-        }
-        share_alignments(alloc, &mut files)?;
-    }
+    let mut readings = ScanReadings {
+        rt,
+        scan,
+        patterns: &patterns,
+        states: States::of(alloc, &found.files, &found.states, notes_programs)?,
+        watched: Vec::new(alloc),
+        digested: Vec::new(alloc),
+    };
+    let files = match compose(alloc, found.files, owner_of(scan), &mut readings) {
+        Ok(files) => files,
+        Err(why) => return Err(uncomposed(reporter, scan, why)),
+    };
+    let ScanReadings {
+        states,
+        watched,
+        ..
+    } = readings;
     Ok(Found {
         files,
         directories,

@@ -1,4 +1,5 @@
 //! Why a command stops early, as a value. One function says it: `Reporter::stopped`.
+use crate::needed::Unmet;
 use crate::words::Words;
 use build_commands::changes::ChangeCounts;
 use rom_commands::{Asked, Ending, Status};
@@ -35,6 +36,8 @@ pub enum Line {
     Misfit { line: u64, number: u32 },
     /// `unfit OWNERS GROUPS MODES`.
     Unfit(ChangeCounts),
+    /// `needs LINE PATH NAME`.
+    Needs(Unmet),
 }
 
 /// What is said of a file.

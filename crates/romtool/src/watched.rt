@@ -3,20 +3,20 @@ use build_commands::inventory::{FileKind, NamedFile};
 use std::alloc::{AllocError, Global};
 use system_files::Stamp;
 
-/// The name of a regular file, the state in which a scan found it, and whether it is an ELF file,
-/// if that is noted.
+/// The name of a regular file, the state in which a scan found it, and whether it is an ELF file or
+/// a script, if that is noted.
 #[derive(Drop)]
 struct FoundState {
     name: String,
     state: Stamp,
-    is_elf: bool,
+    is_program: bool,
 }
 
 /// The states in which a scan found regular files, in the order of their names.
 #[derive(Drop)]
 pub struct States {
     all: Vec<FoundState>,
-    /// Whether it is noted which of them are ELF files.
+    /// Whether it is noted which of them are programs.
     notes_programs: bool,
 }
 
@@ -34,7 +34,7 @@ impl States {
                 all.push(FoundState {
                     name: String::from_str(alloc, &file.place)?,
                     state: *state,
-                    is_elf: false,
+                    is_program: false,
                 })?;
             }
         }
@@ -57,23 +57,23 @@ impl States {
         self.all.get(self.number_of(name)?).map(|file| file.state)
     }
 
-    /// Returns whether ELF files are noted.
+    /// Returns whether programs are noted.
     pub fn notes_programs(&self) -> bool {
         self.notes_programs
     }
 
-    /// Notes that the file of this name is an ELF file.
+    /// Notes that the file of this name is an ELF file or a script.
     pub fn note_program(&mut self, name: &str) {
         if let Some(number) = self.number_of(name)
             && let Some(file) = self.all.get_mut(number)
         {
-            file.is_elf = true;
+            file.is_program = true;
         }
     }
 
-    /// Returns whether the file of this name may be an ELF file: it was noted, or none were.
+    /// Returns whether the file of this name may be a program: it was noted, or none were.
     pub fn may_be_program(&self, name: &str) -> bool {
         let file = self.number_of(name).and_then(|number| self.all.get(number));
-        !self.notes_programs || file.is_some_and(|file| file.is_elf)
+        !self.notes_programs || file.is_some_and(|file| file.is_program)
     }
 }

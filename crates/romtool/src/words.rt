@@ -1,6 +1,6 @@
 //! Words for people, which are kept until they are said.
 use crate::origin::Origin;
-use rom_faults::Fault;
+use rom_fields::Fault;
 use sentences::words::escaped;
 use sentences::{fault_sentence, image, reason_sentence};
 use std::alloc::{AllocError, Global};
@@ -114,7 +114,7 @@ impl Words {
     fn try_add_fault(&mut self, name: &[u8], bytes: &[u8], fault: Fault) -> Result<(), AllocError> {
         let alloc = self.alloc;
         let Fault { number, at } = fault;
-        let (short, sentence) = (rom_faults::name(number), fault_sentence(number));
+        let (short, sentence) = (rom_fields::fault::name(number), fault_sentence(number));
         let seen = image::seen(alloc, bytes, number, at)?;
         let colon = if seen.is_empty() { "" } else { ": " };
         let what = format!(in alloc;

@@ -1,9 +1,9 @@
 -- The faults of an image in words, by number. (This project's own.)
 use Rattle.std.specs.Prelude.{ℕ, List, ◌==◌, if◌then◌else◌, codes}
-use Rattle.rom_faults.specs.FaultNumbers.{TOO_MANY, SHORT, MAGIC, SIZE, SUM, FLAGS, CRC, SIGNATURE}
-use Rattle.rom_faults.specs.FaultNumbers.{ROOT, BOUNDS, HEADER_SUM, BAD_NAME, KIND, LINK_SIZE}
-use Rattle.rom_faults.specs.FaultNumbers.{BLOCK_KIND, LIST_END, TWICE, TOO_DEEP, OVERLAP}
-use Rattle.rom_faults.specs.FaultNumbers.{DUPLICATE_NAME, DOT, HARD_LINK, UNSORTED}
+use Rattle.rom_fields.specs.FaultNumbers.{TOO_MANY, SHORT, MAGIC, SIZE, SUM, FLAGS, CRC, SIGNATURE}
+use Rattle.rom_fields.specs.FaultNumbers.{ROOT, BOUNDS, HEADER_SUM, BAD_NAME, KIND, LINK_SIZE}
+use Rattle.rom_fields.specs.FaultNumbers.{BLOCK_KIND, LIST_END, TWICE, TOO_DEEP, OVERLAP}
+use Rattle.rom_fields.specs.FaultNumbers.{DUPLICATE_NAME, DOT, HARD_LINK, UNSORTED}
 
 -- the sentence of the fault of this number
 abbrev pub fault_sentence : ℕ → List ℕ

@@ -2,7 +2,7 @@
 ghost use Rattle.std.specs.Prelude.{◌≡◌};
 ghost use Rattle.sentences.specs.Faults.{fault_sentence};
 
-use rom_faults::fault::{
+use rom_fields::fault::{
     BAD_NAME, BLOCK_KIND, BOUNDS, CRC, DOT, DUPLICATE_NAME, FLAGS, HARD_LINK, HEADER_SUM, KIND,
     LINK_SIZE, LIST_END, MAGIC, OVERLAP, ROOT, SHORT, SIGNATURE, SIZE, SUM, TOO_DEEP, TOO_MANY,
     TWICE, UNSORTED,

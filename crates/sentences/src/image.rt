@@ -5,7 +5,7 @@ ghost use Rattle.std.specs.Bool.{OnTrue};
 use crate::words::shown;
 use cramfs_format::{Order, inode, superblock as cramfs};
 use crc::{crc32, crc32_more};
-use rom_faults::fault::{
+use rom_fields::fault::{
     BLOCK_KIND, BOUNDS, CRC, FLAGS, MAGIC, ROOT, SHORT, SIGNATURE, SIZE, SUM, TOO_MANY,
 };
 use rom_fields::{be32, word_sum};

@@ -51,6 +51,10 @@ pub const NO_PREFIX: &str =
 pub const MISREAD: &str =
     "it is valid, but Linux misreads what these lines name; see LINUX, By number";
 
+/// A program in a valid image needs a file that the image does not have.
+pub const NEEDED: &str =
+    "programs need these files, and it does not have them; see PROTOCOL, What programs need";
+
 /// A program in a valid image is not, or not wholly, executed in place.
 pub const NOT_IN_PLACE: &str =
     "Linux does not execute all of these programs in place; see PROTOCOL, Programs in place";

@@ -4,7 +4,7 @@ use Rattle.std.specs.Prelude.{◌≡◌, ℕ, max, min, List, length, take}
 use Rattle.system_files.specs.declared.loading.Found.{Found}
 use Rattle.system_files.specs.declared.loading.Found.TheVariants.{Image, Refused}
 use Rattle.formats.specs.Reach.{Reaches, IsSumRefused}
-use Rattle.rom_faults.specs.FaultNumbers.{SUM}
+use Rattle.rom_fields.specs.FaultNumbers.{SUM}
 
 -- All bytes that a check of these bytes reads were loaded; or at most the first 512 were, and the
 -- checksum of these refuses a file of `len` bytes.

@@ -9,6 +9,9 @@ use std::io::Read;
 /// The first bytes of an ELF file.
 const MAGIC: &[u8] = b"\x7fELF";
 
+/// How a script begins that names its interpreter.
+const SCRIPT: &[u8] = b"#!";
+
 /// The number of bytes of a file that are read at once.
 const PART: usize = 16_384;
 
@@ -61,13 +64,14 @@ pub fn elf_front(
     Ok(bytes)
 }
 
-/// Returns the bytes of a source in this state, if it is an ELF file, up to this number.
+/// Returns the bytes of a source in this state, if it is an ELF file or a script that names an
+/// interpreter, up to this number.
 ///
 /// # Errors
 ///
 /// The operating system's error; `SourceChanged`; `SourceUnread` if there are fewer bytes than the
 /// system reported.
-pub fn elf_in(
+pub fn program_in(
     rt: &HostRuntime,
     name: &str,
     state: &Stamp,
@@ -79,7 +83,8 @@ pub fn elf_in(
     let mut bytes = Vec::new(rt.alloc());
     let front = MAGIC.len() as u64;
     read_until(&mut file, &mut bytes, front, front)?;
-    if bytes.as_slice() != MAGIC && bytes.len() as u64 == front.min(state.len) {
+    let is_program = bytes.as_slice() == MAGIC || bytes.starts_with(SCRIPT);
+    if !is_program && bytes.len() as u64 == front.min(state.len) {
         return Ok(None);
     }
     read_until(&mut file, &mut bytes, most, state.len)?;

@@ -55,7 +55,7 @@ pub use directories::{base, directory_at};
 pub use disk::{Disk, OpenedSource, first_changed, stamp_unlinked};
 pub use faked::is_unfaked;
 pub use file_error::{FileError, refused};
-pub use found::{Digested, digest_of, elf_front, elf_in};
+pub use found::{Digested, digest_of, elf_front, program_in};
 pub use loading::{Found, Front, Loaded, load};
 pub use names::{directory_of, is_open_to_others, is_own_file, name_in_directory, way_to};
 pub use outputs::{Outputs, Unopened};

@@ -4,7 +4,7 @@ ghost use Rattle.system_files.specs.Loads.{Loads};
 
 use formats::{HEAD, SUMMED, is_sum_refused, reach_of};
 use program_streams::read_until;
-use rom_faults::{Fault, fault};
+use rom_fields::{Fault, fault};
 use std::alloc::Global;
 use std::io::{self, Read};
 

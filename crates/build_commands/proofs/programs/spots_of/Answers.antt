@@ -1,6 +1,6 @@
 use Rattle.std.proofs.Common.{◌≡◌, Some, ap, sym, ◌∙◌, option_map, rules, ◌+◌, length, arith}
-use Rattle.plan_types.specs.Views.{section_view}
-use Rattle.plan_types.specs.Plans.{section_at}
+use Rattle.manifest_layout.specs.Views.{section_view}
+use Rattle.manifest_layout.specs.Plans.{section_at}
 use Rattle.build_commands.specs.Programs.{with_spot}
 use Rattle.build_commands.proofs.Spots.{none_within, size_kept, spot_more}
 use Rattle.build_commands.proofs.programs.spots_of.Goals as goal

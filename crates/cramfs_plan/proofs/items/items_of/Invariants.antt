@@ -1,5 +1,5 @@
 use Rattle.std.proofs.Common.{◌≡◌, map, take}
-use Rattle.plan_types.specs.Views.{item_view}
+use Rattle.manifest_layout.specs.Views.{item_view}
 use Rattle.cramfs_plan.specs.Entries.{entry_view}
 use Rattle.cramfs_plan.specs.Small.{cut}
 use Rattle.cramfs_plan.proofs.items.items_of.Given as goal

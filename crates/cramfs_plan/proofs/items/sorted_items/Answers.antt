@@ -1,6 +1,6 @@
 use Rattle.std.proofs.Common.{rules, ◌≡◌, map, ap, ◌∙◌}
 use Rattle.std.proofs.lemmas.List.Sorted.{IsNonDecreasingBy-from_sort_by_key}
-use Rattle.plan_types.specs.Views.{item_view}
+use Rattle.manifest_layout.specs.Views.{item_view}
 use Rattle.cramfs_plan.specs.declared.wide_inode.WideInode.{WideInode}
 use Rattle.cramfs_plan.specs.Entries.{entry_view}
 use Rattle.cramfs_plan.specs.Small.{cut}

@@ -1,7 +1,7 @@
 use Rattle.std.proofs.Common.{rules, map}
 use Rattle.std.proofs.lemmas.List.Sorted.{IsNonDecreasingBy-from_sort_by_key}
-use Rattle.plan_types.specs.declared.section.Section.{Section}
-use Rattle.plan_types.specs.Views.{item_view}
+use Rattle.manifest_layout.specs.declared.section.Section.{Section}
+use Rattle.manifest_layout.specs.Views.{item_view}
 use Rattle.cramfs_plan.proofs.Sectioning.{sorted_are}
 use Rattle.cramfs_plan.proofs.section_list.sections.Goals as goal
 

@@ -1,5 +1,5 @@
 use Rattle.std.proofs.Common.{◌∷◌, ap, not, ◌∙◌}
-use Rattle.plan_types.specs.Views.{item_view}
+use Rattle.manifest_layout.specs.Views.{item_view}
 use Rattle.cramfs_plan.proofs.Sectioning.{holds_more, short_at, item_at, item_done}
 use Rattle.cramfs_plan.proofs.section_list.unsorted_sections.Goals as goal
 

@@ -1,6 +1,6 @@
 use Rattle.std.proofs.Common.{◌≡◌, ◌++◌, List, drop, map}
 use Rattle.manifest_tree.specs.Items.{Item}
-use Rattle.plan_types.specs.Views.{item_view, section_view}
+use Rattle.manifest_layout.specs.Views.{item_view, section_view}
 use Rattle.cramfs_layout.specs.Items.{sections_from}
 use Rattle.cramfs_plan.specs.Tables.{HoldsTables, unsorted}
 use Rattle.cramfs_plan.proofs.section_list.unsorted_sections.Given as goal

@@ -5,7 +5,7 @@ use Rattle.cramfs_format.specs.declared.order.Order.{Order}
 use Rattle.crc.specs.Crc.{crc_of}
 use Rattle.image_stream.specs.Outcomes.{Streams, state}
 use Rattle.image_stream.specs.Segments.{Form, image_of}
-use Rattle.plan_types.specs.Plans.{Planned, IsPlanOf}
+use Rattle.manifest_layout.specs.Plans.{Planned, IsPlanOf}
 use Rattle.formats.specs.Format.{cramfs}
 use Rattle.image_stream.proofs.Results.{ok_both, err_weaker}
 use Rattle.cramfs_write.specs.Form.{form_of}

@@ -1,5 +1,5 @@
 use Rattle.std.proofs.Common.{List, ℕ, map, length, sym, ap, subst, ◌∙◌, arith, rules}
-use Rattle.plan_types.specs.Plans.{IsPlanOf}
+use Rattle.manifest_layout.specs.Plans.{IsPlanOf}
 use Rattle.manifest_layout.specs.Format.{layout_of}
 use Rattle.formats.specs.Format.{format_of}
 use Rattle.image_build.proofs.Answered.{image_of}

@@ -2,7 +2,7 @@ use Rattle.std.proofs.Common.{◌≡◌, ◌⊎◌, inl, inr, List, ℕ, Option,
 use Rattle.image_build.specs.Images.{IsCheckedImage, IsImageWritten}
 use Rattle.image_build.specs.declared.padding.Padding.{Padding}
 use Rattle.image_stream.specs.Answers.{Answer}
-use Rattle.plan_types.specs.Plans.{Planned}
+use Rattle.manifest_layout.specs.Plans.{Planned}
 use Rattle.atomic_file.specs.Log.{Event}
 use Rattle.atomic_file.specs.Crashes.{Place, Content, Anything, Whole}
 use Rattle.atomic_file.specs.Moments.{HoldsImage, IsNew}

@@ -2,7 +2,7 @@ use Rattle.std.proofs.Common.{◌≡◌, ◌<◌, map, length, IfOk, sym, ap, su
 use Rattle.std.specs.List.{AllByRecursion as Every}
 use Rattle.cramfs_layout.specs.Items as cramfs_items
 use Rattle.manifest_tree.specs.Items.{Item, SectionsRise}
-use Rattle.plan_types.specs.Views.{item_view, section_view}
+use Rattle.manifest_layout.specs.Views.{item_view, section_view}
 use Rattle.formats.specs.Format.{cramfs}
 use Rattle.manifest_layout.specs.Format.{len_of, items_of, sections_of}
 use Rattle.manifest_layout.specs.Misfit.{HasNoMisfit}

@@ -3,8 +3,8 @@ use Rattle.std.specs.Option.{option_map}
 use Rattle.record_forest.specs.Faults.{IsLeastFaultOf}
 use Rattle.manifest_layout.specs.Format.{len_of, items_of}
 use Rattle.manifest_layout.specs.Misfit.{HasLineMisfit, HasWholeMisfit, HasNoMisfit, line_misfit, whole_misfit}
-use Rattle.plan_types.specs.Plans.{IsPlanOf}
-use Rattle.plan_types.specs.Views.{item_view}
+use Rattle.manifest_layout.specs.Plans.{IsPlanOf}
+use Rattle.manifest_layout.specs.Views.{item_view}
 use Rattle.formats.specs.Format.{format_of}
 use Rattle.plan_rows.specs.Misfits.{misfit_fault}
 use Rattle.plan_rows.specs.Rows.{inode_view, row_view}

@@ -1,5 +1,6 @@
-use Rattle.std.proofs.Common.{◌≡◌, ◌+◌, ◌*◌, ◌≤◌, length}
+use Rattle.std.proofs.Common.{◌≡◌, ℕ, ◌+◌, ◌*◌, ◌≤◌, length}
 use Rattle.path_walk.specs.Resolution.{Trail, resolve, resolution}
+use Rattle.path_walk.specs.Compared.{compared_by, names_compared, AreTakenFrom}
 use Rattle.path_walk.specs.Graft.{MountedNode, graft}
 use Rattle.path_walk.specs.Trails.{IsTrail, NoneEmpty, unread_components, unread_bytes}
 use Rattle.path_walk.proofs.paths.find_place.Given as goal
@@ -15,6 +16,12 @@ invariant-loop-component g l = record {
   rest : resolve (graft (g.G.Gathered.held l.fn.images).images l.mounts) l.fn.follow_last l.links trail
       (unread_components l.unread.items)
       ≡ resolution (graft (g.G.Gathered.held l.fn.images).images l.mounts) l.fn.path l.fn.follow_last;
+  spent : ℕ;
+  to_come : spent
+      + compared_by (graft (g.G.Gathered.held l.fn.images).images l.mounts) l.fn.follow_last l.links trail
+      (unread_components l.unread.items)
+      ≡ names_compared (graft (g.G.Gathered.held l.fn.images).images l.mounts) l.fn.path l.fn.follow_last;
+  taken : AreTakenFrom l.fn.purse l.purse spent;
 }
 
 abbrev pub decreases-loop-component : goal.decreases-loop-component

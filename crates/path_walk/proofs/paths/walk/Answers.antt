@@ -1,4 +1,4 @@
-use Rattle.std.proofs.Common.{Ok, Some, Err, ◌≡◌, [], ◌∷◌, refl, arith}
+use Rattle.std.proofs.Common.{Ok, Some, Err, ◌≡◌, [], ◌∷◌, refl, arith, MatchResult}
 use Rattle.rom_tree.specs.Tree.{Node}
 use Rattle.rom_tree.specs.Image.{Image, image_node}
 use Rattle.path_walk.specs.declared.error.WalkError.{WalkError}
@@ -7,8 +7,8 @@ use Rattle.path_walk.proofs.Alike.{no_mounts, one_shallow, one_ok, one_err}
 use Rattle.path_walk.proofs.Answered.{handed_on}
 use Rattle.path_walk.proofs.paths.walk.Goals as goal
 
-pub find_place-requires : goal.find_place-requires
-find_place-requires g c κs =
+pub find_unlimited-requires : goal.find_unlimited-requires
+find_unlimited-requires g c κs =
     let m : Image = g.T.Viewed.image c.args.image.now in
     ((refl, tt), (no_mounts (m ∷ []), (omega arith, (omega arith, (omega arith, one_shallow m c.requires)))))
 
@@ -23,6 +23,6 @@ returns-in_err-place-clause-leads g c =
     let m : Image = g.T.Viewed.image c.args.image.now in
     let all = resolution (tree_namespace m.bytes m.tree) c.args.path.now c.args.follow_last in
     let e : WalkError = c.in_err-place.field-0.0 in
-    handed_on (λ n. (x : Node) × (all ≡ Ok x) × (image_node m n.0 ≡ Some x))
-    (λ v. all ≡ Err v) c.from_residual.result e c.from_residual.ensures.1
+    handed_on (λ r. MatchResult r (λ n. (x : Node) × (all ≡ Ok x) × (image_node m n.0 ≡ Some x)) (λ v. all ≡ Err v))
+    c.from_residual.result e c.from_residual.ensures.1
     (one_err m e c.args.path.now c.args.follow_last c.in_err-place.ensures.leads)

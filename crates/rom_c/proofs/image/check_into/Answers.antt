@@ -1,5 +1,5 @@
 use Rattle.std.proofs.Common.{subst}
-use Rattle.rom_faults.specs.declared.error.CheckError.{CheckError}
+use Rattle.rom_fields.specs.declared.check_error.CheckError.{CheckError}
 use Rattle.image_check.specs.Any.{any_view, report_of}
 use Rattle.image_check.specs.Checked.{IsLeastFaultUnder, IsRefused}
 use Rattle.rom_c.specs.Held.{usual}

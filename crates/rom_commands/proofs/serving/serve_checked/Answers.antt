@@ -2,8 +2,8 @@ use Rattle.std.proofs.Common.{◌≡◌, Err, subst, sym}
 use Rattle.image_check.specs.Any.{any_view}
 use Rattle.open_files.specs.Machine.{no_files}
 use Rattle.rom_serve.specs.Machines.{image_machine}
-use Rattle.rom_faults.specs.declared.error.CheckError.{CheckError}
-use Rattle.rom_faults.specs.declared.error.CheckError.TheVariants as check
+use Rattle.rom_fields.specs.declared.check_error.CheckError.{CheckError}
+use Rattle.rom_fields.specs.declared.check_error.CheckError.TheVariants as check
 use Rattle.rom_commands.specs.Lines.{fault_line}
 use Rattle.rom_commands.specs.Serving.{Input, input_of, CheckedEnds, EndsServed, Reports}
 use Rattle.rom_commands.proofs.Endings.{reports_by}

@@ -1,5 +1,5 @@
 use Rattle.std.proofs.Common.{ℕ, Err, refl}
-use Rattle.rom_faults.specs.declared.error.CheckError.TheVariants.{Fault}
+use Rattle.rom_fields.specs.declared.check_error.CheckError.TheVariants.{Fault}
 use Rattle.rom_commands.specs.Asked.{takes_fault}
 use Rattle.rom_commands.specs.Answers.{IsAnswer, usual_limits}
 use Rattle.rom_commands.proofs.Known.{fault_ends}

@@ -1,6 +1,6 @@
 use Rattle.std.proofs.Common.{◌≡◌, ◌≢◌, ℕ, List, refl, sym, ap, subst, ◌∙◌, arith}
 use Rattle.std.proofs.lemmas.Bool.{false≢true}
-use Rattle.rom_faults.specs.declared.fault.Fault.{Fault}
+use Rattle.rom_fields.specs.declared.fault.Fault.{Fault}
 use Rattle.romfs_format.specs.Superblock.{accessible, HasSum, HasRoot, short, no_magic, bad_size, bad_sum, no_root}
 use Rattle.romfs_format.specs.Superblock.{root_kind}
 use Rattle.romfs_format.specs.Tree.{root_of}

@@ -1,6 +1,6 @@
 use Rattle.std.proofs.Common.{[], ◌∷◌, ◌++◌, map, sym, ap, ◌∙◌}
 use Rattle.std.proofs.lemmas.List.{map-append}
-use Rattle.plan_types.specs.Views.{item_view}
+use Rattle.manifest_layout.specs.Views.{item_view}
 use Rattle.plan_rows.specs.Rows.{what_view, inode_view}
 use Rattle.romfs_layout.specs.Items.{item_of}
 use Rattle.romfs_layout.specs.Layout.{header_alone}

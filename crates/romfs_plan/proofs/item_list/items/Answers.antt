@@ -1,8 +1,8 @@
 use Rattle.std.proofs.Common.{◌+◌, ◌++◌, ℕ, List, length, map, replicate, sym, ap, ◌∙◌}
 use Rattle.std.proofs.lemmas.List.{length-map}
 use Rattle.manifest_tree.specs.Items.{Item}
-use Rattle.plan_types.specs.declared.item.Item as code_item
-use Rattle.plan_types.specs.Views.{item_view}
+use Rattle.manifest_layout.specs.declared.item.Item as code_item
+use Rattle.manifest_layout.specs.Views.{item_view}
 use Rattle.plan_rows.specs.Rows.{inode_view, row_view}
 use Rattle.romfs_layout.specs.Items.{item_of}
 use Rattle.romfs_layout.specs.Layout.{root_at}

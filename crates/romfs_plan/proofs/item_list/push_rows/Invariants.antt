@@ -1,5 +1,5 @@
 use Rattle.std.proofs.Common.{◌≡◌, ◌++◌, drop, map, length, replicate}
-use Rattle.plan_types.specs.Views.{item_view}
+use Rattle.manifest_layout.specs.Views.{item_view}
 use Rattle.plan_rows.specs.Rows.{row_view}
 use Rattle.romfs_layout.specs.Items.{item_of}
 use Rattle.romfs_plan.specs.Headers.{headers_of, noted}

@@ -1,6 +1,6 @@
 use Rattle.std.proofs.Common.{◌<◌, length}
 use Rattle.manifest_tree.specs.Items.{Item}
-use Rattle.plan_types.specs.Views.{item_view}
+use Rattle.manifest_layout.specs.Views.{item_view}
 use Rattle.romfs_plan.proofs.Lists.{here}
 use Rattle.romfs_plan.proofs.section_list.sections.Goals as goal
 

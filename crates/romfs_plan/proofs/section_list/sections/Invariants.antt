@@ -1,5 +1,5 @@
 use Rattle.std.proofs.Common.{◌≡◌, ◌++◌, drop, map}
-use Rattle.plan_types.specs.Views.{item_view, section_view}
+use Rattle.manifest_layout.specs.Views.{item_view, section_view}
 use Rattle.romfs_layout.specs.Items.{sections_from, sections_of}
 use Rattle.romfs_plan.proofs.section_list.sections.Given as goal
 

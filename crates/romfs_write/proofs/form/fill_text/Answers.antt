@@ -1,6 +1,6 @@
 use Rattle.std.proofs.Common.{◌≡◌, ◌+◌, ◌-◌, ℕ, List, [], length, take, drop, sym, ap, ◌∙◌, arith}
 use Rattle.manifest_tree.specs.Names.{bytes_of}
-use Rattle.plan_types.specs.Views.{fill_view}
+use Rattle.manifest_layout.specs.Views.{fill_view}
 use Rattle.romfs_write.proofs.form.fill_text.Goals as goal
 
 pub returns-in-Text : goal.returns-in-Text

@@ -4,7 +4,7 @@ use Rattle.rom_fields.specs.Written.{AppendsPrefix}
 use Rattle.image_stream.specs.Outcomes.{Streams, state}
 use Rattle.image_stream.specs.Segments.{IsLaidOut}
 use Rattle.image_stream.specs.WordSums.{balance_of}
-use Rattle.plan_types.specs.Plans.{Planned, IsPlanOf}
+use Rattle.manifest_layout.specs.Plans.{Planned, IsPlanOf}
 use Rattle.formats.specs.Format.{romfs}
 use Rattle.romfs_write.specs.Form.{form_of}
 use Rattle.romfs_write.specs.Known.{IsRomfsPlan}

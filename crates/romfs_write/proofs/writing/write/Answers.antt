@@ -1,6 +1,6 @@
 use Rattle.std.proofs.Common.{length, sym, ap, subst, ◌∙◌}
 use Rattle.image_stream.specs.Segments.{IsLaidOut}
-use Rattle.plan_types.specs.Plans.{Planned, IsPlanOf}
+use Rattle.manifest_layout.specs.Plans.{Planned, IsPlanOf}
 use Rattle.formats.specs.Format.{romfs}
 use Rattle.romfs_write.specs.Form.{form_of}
 use Rattle.romfs_write.specs.Known.{IsRomfsPlan}

@@ -1,6 +1,6 @@
 use Rattle.std.proofs.Common.{◌≡◌, ℕ, List, refl, sym, subst, ◌∙◌}
 use Rattle.record_forest.specs.declared.reference.Row.{Row}
-use Rattle.rom_faults.specs.Faults.{fault_answer}
+use Rattle.rom_fields.specs.Faults.{fault_answer}
 use Rattle.record_forest.specs.Answers.{traversal_answer}
 use Rattle.rom_tree.proofs.Answered.{err_by}
 use Rattle.rom_tree.specs.Image.{Image}

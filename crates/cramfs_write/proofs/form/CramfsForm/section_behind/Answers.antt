@@ -2,9 +2,9 @@ use Rattle.std.proofs.Common.{drop, sym, ap, subst, ◌∙◌, arith}
 use Rattle.std.proofs.lemmas.List.{length-drop}
 use Rattle.std.specs.Option.{option_map}
 use Rattle.manifest_tree.specs.Items.{Section, section, super}
-use Rattle.plan_types.specs.Views.{section_view}
+use Rattle.manifest_layout.specs.Views.{section_view}
 use Rattle.cramfs_write.specs.Known.{IsBody}
-use Rattle.plan_types.proofs.Indexed.{section_found, section_lost, every_at}
+use Rattle.manifest_layout.proofs.Indexed.{section_found, section_lost, every_at}
 use Rattle.cramfs_write.proofs.form.CramfsForm.section_behind.Goals as goal
 
 pub overflow_add-i : goal.overflow_add-i

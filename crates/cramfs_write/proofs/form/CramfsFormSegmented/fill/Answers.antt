@@ -1,6 +1,6 @@
 use Rattle.std.proofs.Common.{drop, ap, subst, sym, ◌∙◌, ◌+◌, ◌≤◌, ◌%◌, ℕ, length}
 use Rattle.manifest_tree.specs.Items.{section, super}
-use Rattle.plan_types.specs.Views.{section_view}
+use Rattle.manifest_layout.specs.Views.{section_view}
 use Rattle.cramfs_write.proofs.Indexed.{segment_found, segment_is_long}
 use Rattle.cramfs_write.proofs.form.CramfsFormSegmented.fill.Goals as goal
 

@@ -2,7 +2,7 @@ use Rattle.std.proofs.lemmas.Grind.{common_steps}
 use Rattle.std.proofs.Common.{drop, ap, sym, ◌∙◌, arith}
 use Rattle.image_stream.specs.Segments.{outline}
 use Rattle.manifest_tree.specs.Items.{section, super}
-use Rattle.plan_types.specs.Views.{section_view}
+use Rattle.manifest_layout.specs.Views.{section_view}
 use Rattle.cramfs_write.proofs.Indexed.{segment_found, outline_by}
 use Rattle.cramfs_write.proofs.form.CramfsFormSegmented.segment.Goals as goal
 

@@ -1,4 +1,0 @@
-mod Places
-pub mod Indexed
-pub mod Sized
-pub mod SourceSizes

@@ -1,2 +1,0 @@
-pub mod FaultNumbers
-pub mod Faults
