@@ -45,7 +45,7 @@ printf '%s\\n' "${COMPREPLY[@]}"
 FISH = (
     ("romtool s", ["scan", "serve", "space"]), ("romtool --explain ex", ["extract"]), ("romtool help bu", ["build"]),
     ("romtool --e", ["--explain"]), ("romtool build cr", ["cramfs", "cramfs-be"]), ("romtool build romfs f", ["file", "folder/"]),
-    ("romtool build --n", ["--no-follow"]), ("romtool scan --for r", ["romfs"]), ("romtool scan --for romfs f", ["folder/"]),
+    ("romtool build --n", ["--needs", "--no-follow"]), ("romtool scan --for r", ["romfs"]), ("romtool scan --for romfs f", ["folder/"]),
     ("romtool scan --align 40", ["4096"]), ("romtool extract f", ["file", "folder/"]), ("romtool extract image f", ["folder/"]),
 )  # fmt: skip
 # what an ordinary user does under fakeroot with the program that is given, and what the list of the image is then
