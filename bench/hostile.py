@@ -26,13 +26,21 @@ from files import put, remove, text_of  # noqa: E402
 from harness import parser, program_of  # noqa: E402
 
 from images import (  # noqa: E402
-    BLOCK, CRAMFS_DIRECTORY, CRAMFS_REGULAR, DIRECT_POINTERS, HARD_LINK, REGULAR, SORTED, WITH_SUM, cramfs, inode, pointers, romfs_list,
+    BLOCK, CRAMFS_DIRECTORY, CRAMFS_REGULAR, DIRECT_POINTERS, HARD_LINK, REGULAR, SORTED, WITH_SUM, cramfs, inode, padded, pointers,
+    romfs_list,
 )  # fmt: skip
 
 MB = 10**6
 MOST_SECONDS, MOST_MEMORY, PRINTED_IN_A_SECOND = 10, 100 * MB, 25 * MB
 MOST_ADDRESSES = 4 << 30
 FLAGS = WITH_SUM | SORTED | DIRECT_POINTERS
+# the lowest four bits of a romfs header's first word
+SYMLINK, EXECUTABLE = 3, 8 | REGULAR
+# Debian's directories of libraries
+MULTIARCH = (
+    b"aarch64-linux-gnu", b"arm-linux-gnueabi", b"arm-linux-gnueabihf", b"i386-linux-gnu", b"mips64el-linux-gnuabi64",
+    b"mipsel-linux-gnu", b"powerpc64le-linux-gnu", b"riscv64-linux-gnu", b"s390x-linux-gnu", b"x86_64-linux-gnu",
+)  # fmt: skip
 
 
 # --------------------------------------------------------------------------------------- images
@@ -58,17 +66,32 @@ def programs(text):
     return one_table(33_000, program.ljust(113 * BLOCK, b"\0"), size, CRAMFS_REGULAR | 0o111)
 
 
-def libraries(text):
-    """A program that needs 60,000 libraries, none of which is there."""
-    strings, count = b"\0" + text + b"\0", 60_000
+def needing(count, library):
+    """Returns a program that needs a library so many times."""
+    strings = b"\0" + library + b"\0"
     place = (64 + 2 * 56 + len(strings) + 15) // 16 * 16
     entries = struct.pack("<QQ", 5, 0x400000 + 64 + 2 * 56) + count * struct.pack("<QQ", 1, 1) + bytes(16)
     size = place + len(entries)
     program = struct.pack("<4s12BHHIQQQIHHHHHH", b"\x7fELF", 2, 1, 1, *bytes(9), 3, 62, 1, 0x400000, 64, 0, 0, 64, 56, 2, 64, 0, 0)
     program += struct.pack("<IIQQQQQQ", 1, 5, 0, 0x400000, 0x400000, size, size, 4096)
     program += struct.pack("<IIQQQQQQ", 2, 4, place, 0x400000 + place, 0x400000 + place, len(entries), len(entries), 8)
-    blocks = ((program + strings).ljust(place, b"\0") + entries).ljust((size + BLOCK - 1) // BLOCK * BLOCK, b"\0")
-    return one_table(1, blocks, size, CRAMFS_REGULAR | 0o111)
+    return (program + strings).ljust(place, b"\0") + entries
+
+
+def libraries(text):
+    """A program that needs 60,000 libraries, none of which is there."""
+    program = needing(60_000, text)
+    return one_table(1, padded(program, BLOCK), len(program), CRAMFS_REGULAR | 0o111)
+
+
+def linked_libraries(text):
+    """Names of a program that needs ten libraries. Each is looked for in all usual directories, through 36 links of 4,000 bytes."""
+    program, chain = needing(10, text), [text, *(b"%d" % n for n in range(35)), b"none"]
+    first = [(EXECUTABLE, 0, len(program), b"program", program)]
+    links = [(name, to.rjust(4000, b"/").replace(b"//", b"./")) for name, to in zip(chain, chain[1:])]
+    links += [(name, b"/") for name in (b"lib", b"lib32", b"lib64", b"local", b"usr", *MULTIARCH)]
+    first += [(SYMLINK, 0, len(to), name, to) for name, to in links]
+    return romfs_list([name_of(n) for n in range(10_000)], HARD_LINK, 96, first)
 
 
 def one_block(text):
@@ -192,7 +215,7 @@ def linked_files(top):
 # each input: its maker, which returns the names of the files whose bytes count, and the commands
 INPUTS = {
     **{make.__name__: (image_of(make), READERS) for make in (programs, libraries, one_block)},
-    **{make.__name__: (image_of(make), (*READERS, "extract --no-sync image all")) for make in (hard_links, long_paths)},
+    **{make.__name__: (image_of(make), (*READERS, "extract --no-sync image all")) for make in (linked_libraries, hard_links, long_paths)},
     "same_lines": (same_lines, ("build cramfs manifest out",)),
     "hard_lines": (hard_lines, ("build romfs manifest out",)),
     "deep_lines": (deep_lines, ("build romfs manifest out", "build cramfs manifest out")),

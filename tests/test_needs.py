@@ -163,13 +163,39 @@ def test_each_name(romtool):
     assert lines(romtool, "romfs", text, p=linked(LOADER, [LIBRARY])) == wanted
 
 
-def test_unread(romtool):
-    """Files whose tables have more than 2^20 entries in all are not looked at."""
-    program = linked(None, [b"/p"] * 1000)
-    names = "".join("same /%04d 0755 0 0 /p\n" % n for n in range(1100))
-    out, err, status = lines(romtool, "cramfs", "file /p 0755 0 0 4 p\n" + names, p=program)
-    # /0000 to /1099 are before /p, each with 1,002 entries
-    assert (out, err, status) == (b"unread /1046\n", b"", 1)
+def effort(program, libraries, longest, run_path):
+    """Returns what it takes to look at a program that needs so many libraries; it has two other entries, and one for a run path."""
+    entries = libraries + 2 + bool(run_path)
+    return entries * (1 + len(program) // 1024) + libraries * (1 + longest // 32) * (27 + len(run_path))
+
+
+@pytest.mark.parametrize("longest", [0, 31, 32, 1000])
+@pytest.mark.parametrize("run_path", [b"", b"/opt:/none"], ids=["usual", "further"])
+def test_unread(romtool, longest, run_path):
+    """Files are looked at until they take more than the image's bytes and 2^20."""
+    program = linked(None, [b"/p"] * 100, run_path or None)
+    names = "".join("same /%04d 0755 0 0 /p\n" % n for n in range(600))
+    link = "slink /l 0777 0 0 %s\n" % ("x" * longest) if longest else ""
+    out, err, status = lines(romtool, "cramfs", "file /p 0755 0 0 4 p\n" + link + names, p=program)
+    count = (2**20 + os.path.getsize("image")) // effort(program, 100, longest, run_path)
+    # all names are before /l and /p
+    assert (out, err, status) == (b"unread /%04d\n" % count, b"", 1)
+
+
+def test_unread_builds(romtool):
+    """Refuses by `build --needs` a program for which there is no time, and `pack` warns of it."""
+    put("p", linked(None, [LIBRARY] * 1000))
+    put("m", b"slink /l 0777 0 0 %s\nfile /p 0755 0 0 4 p\nfile /q 0755 0 0 4 p\n" % (b"x" * 4000))
+    assert romtool("build", "--needs", "cramfs", "m", "out") == (b"unread 2 /p\n", b"", 1)
+    assert not os.path.exists("out")
+    told = "to look for what it and the programs after it need would take too long\n"
+    out, err, status = romtool("--explain", "build", "--needs", "romfs", "m", "out")
+    assert (out, err.decode(), status) == (b"unread 2 /p\n", "romtool: m:2: " + told, 1)
+    os.makedirs("d")
+    put("d/p", linked(None, [LIBRARY] * 1000), 0o755)
+    os.symlink("x" * 4000, "d/l")
+    out, err, status = romtool("--explain", "pack", "--all-root", "cramfs", "d", "other")
+    assert status == 0 and "romtool: /p: warning: " + told in err.decode()
 
 
 @pytest.mark.parametrize("cut", range(0, 700, 7))

@@ -49,6 +49,12 @@ needs_line line path name =
     codes "needs " ++ (decimal line ++ (codes " " ++ (escaped path ++ (codes " " ++ (escaped name
     ++ codes "\n")))))
 
+-- for an image with a program of which it is not known what it needs: unread LINE PATH, and a line
+-- feed
+unfoldable pub unread_line : ℕ → List ℕ → List ℕ
+unread_line line path =
+    codes "unread " ++ (decimal line ++ (codes " " ++ (escaped path ++ codes "\n")))
+
 -- for a build that refuses what it would otherwise only warn of: the line of the least warning, or
 -- 0 for the whole, and the warning
 abbrev pub strict_line : ℕ → ℕ → List ℕ

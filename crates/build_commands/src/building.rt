@@ -2,7 +2,7 @@
 ghost use Rattle.std.specs.Prelude.{◌≡◌, OnOk, decimal};
 ghost use Rattle.build_commands.specs.Printed.{built_line, manifest_line, misfit_line};
 ghost use Rattle.build_commands.specs.Printed.{refusal_line, size_line, strict_line, unfit_line};
-ghost use Rattle.build_commands.specs.Printed.{needs_line, xip_line};
+ghost use Rattle.build_commands.specs.Printed.{needs_line, unread_line, xip_line};
 ghost use Rattle.rom_fields.specs.Failures.{Counts, one_more};
 ghost use Rattle.rom_fields.specs.Written.{WritesText};
 
@@ -219,6 +219,35 @@ pub fn print_needs<'x, W: ByteWrite>(
             Name(path),
             Text(b" "),
             Name(name),
+            Text(b"\n"),
+        ],
+    )
+}
+
+/// Writes `unread LINE PATH` for an image with a program of which it is not known what it needs,
+/// and flushes it: the line of the manifest that names the program, and its path in the image.
+///
+/// # Errors
+///
+/// `Failed` if a write or the flush failed. Then a prefix of the line was written.
+#[tactic(auto, unfolding(crate::specs::Lines::line_text, crate::specs::Lines::part_text, crate::specs::Printed::unread_line))]
+pub fn print_unread<'x, W: ByteWrite>(
+    w: &mut W,
+    line: u64,
+    path: &'x [u8],
+) -> Result<(), Failed>
+    ensures text { WritesText (W.output w.old).contents (W.output w.new).contents result
+        (unread_line line path.now) }
+    ensures count { Counts (W.output w.old).failures (W.output w.new).failures result }
+    ensures flushed { OnOk result ((W.output w.new).flushes ≡ one_more (W.output w.old).flushes) }
+{
+    print_line(
+        w,
+        &[
+            Text(b"unread "),
+            Number(line),
+            Text(b" "),
+            Name(path),
             Text(b"\n"),
         ],
     )

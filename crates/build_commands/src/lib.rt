@@ -12,8 +12,8 @@
 //! - `print_built`, `print_bad_manifest`, `print_misfit`, `print_size`, `print_strict`: the line
 //!   that a build prints: length, fault of the manifest, misfit, too large, refused warning; at an
 //!   `Ok` it was flushed once.
-//! - `print_xip`, `print_needs`: the same for a program that would not be in place, or that needs a
-//!   file which the image would not have.
+//! - `print_xip`, `print_needs`, `print_unread`: the same for a program that would not be in place,
+//!   that needs a file which the image would not have, or of which it is not known what it needs.
 //! - `warning_name`: the name of each warning.
 //! - `foreseen`, `Warnings::least`: what a build foresees that Linux would misread: by number, of
 //!   how many lines it is told and of which first; and the least of these, by line and then by
@@ -152,7 +152,7 @@ mod warnings;
 
 pub use building::{
     print_bad_manifest, print_built, print_misfit, print_needs, print_size, print_strict,
-    print_unfit, print_xip,
+    print_unfit, print_unread, print_xip,
 };
 pub use command::{Closer, Ended, Job, Tools, Unbuilt, Unplaced, build_file, build_over};
 pub use companion::Companion;

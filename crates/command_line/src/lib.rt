@@ -17,12 +17,14 @@
 #![tactic(auto)]
 
 mod asking;
+mod building;
 mod commands;
 mod error;
 mod help;
 mod numbers;
 mod request;
 mod table;
+mod values;
 mod words;
 
 pub use commands::VERSION;

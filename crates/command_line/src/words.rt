@@ -7,10 +7,11 @@ ghost use Rattle.command_line.specs.Commands.{romtool_app};
 ghost use Rattle.command_line.specs.Words.{IsAskedOf, is_bare};
 ghost use Rattle.command_line.specs.declared.request.Request.TheVariants.{Example};
 
-use crate::asking::{asked, most_of};
+use crate::asking::asked;
 use crate::commands::command;
 use crate::error::{WordsError, Wrong};
 use crate::request::{Limited, Request};
+use crate::values::most_of;
 use clap::error::ErrorKind;
 use clap::{ArgMatches, Error};
 use percent_encoding::{AsciiSet, CONTROLS, ascii_set, percent_encode};

@@ -14,7 +14,7 @@ use image_check::{AnyImage, CheckError, check};
 use lookups::Indexed;
 use manifest::{Line, Word};
 use manifest_layout::Format;
-use program_report::FileNeeds;
+use program_report::{Effort, FileNeeds};
 use rom_fields::Contents;
 use rom_tree::Limits;
 use sentences::words::shown;
@@ -24,17 +24,31 @@ use system_files::{Stamp, program_in};
 /// The bits of a mode by which someone may execute a file.
 const EXECUTABLE: u32 = 0o111;
 
+/// What is said of a program that is not looked at.
+const UNREAD_NEEDS: &str = "to look for what it and the programs after it need would take too long";
+
 /// How many needs are named one by one.
 const MOST_NAMED: u64 = 20;
 
-/// A program of a manifest's line that needs a file.
+/// A program of a manifest's line that needs a file, or that is not looked at.
 #[derive(Drop)]
 pub struct Unmet {
     pub line: u64,
     /// The path of the program.
     pub path: Vec<u8>,
-    /// The interpreter or the library.
-    pub name: Vec<u8>,
+    /// The interpreter or the library, or `None` if to look at the program takes too much work.
+    pub name: Option<Vec<u8>>,
+}
+
+impl Unmet {
+    /// Returns what the program of a line needs.
+    fn of(alloc: Global, line: &Line, name: Option<Vec<u8>>) -> Result<Unmet, AllocError> {
+        Ok(Unmet {
+            line: line.number,
+            path: line.path.as_bytes().to_vec(alloc)?,
+            name,
+        })
+    }
 }
 
 /// An image with the names and the links of a manifest, and empty files, if there is one.
@@ -68,49 +82,63 @@ fn image_of(alloc: Global, bytes: &[u8]) -> Result<Option<AnyImage<'_>>, Unknown
     }
 }
 
-/// Adds what the program of a line, which has these bytes, needs and an image does not have.
-fn add_unmet<'a>(
-    alloc: Global,
-    image: &mut Indexed<'a, AnyImage<'a>>,
-    line: &Line,
-    bytes: &[u8],
-    all: &mut Vec<Unmet>,
-) -> Result<(), Unknown>
-    requires { IsShallow (any_view (inner image.old)).tree }
-    ensures { IsShallow (any_view (inner image.new)).tree }
-{
-    let needs = FileNeeds::of(line.mode & EXECUTABLE != 0, bytes);
-    let names = unmet(alloc, image, &needs)?;
-    for name in &names {
-        all.push(Unmet {
-            line: line.number,
-            path: line.path.as_bytes().to_vec(alloc)?,
-            name: name.to_vec(alloc)?,
-        })?;
-    }
-    Ok(())
+/// Programs that are looked at, over an image of their names.
+#[derive(Drop)]
+struct Search<'a> {
+    image: Indexed<'a, AnyImage<'a>>,
+    effort: Effort,
+    unmet: Vec<Unmet>,
 }
 
-/// Adds what the program of a line needs and an image does not have. Its source has this name and
-/// state.
-#[inline(never)]
-fn look_at<'a>(
-    rt: &HostRuntime,
-    image: &mut Indexed<'a, AnyImage<'a>>,
-    line: &Line,
-    source: (usize, &str, &Stamp),
-    all: &mut Vec<Unmet>,
-) -> Result<(), Unknown>
-    requires { IsShallow (any_view (inner image.old)).tree }
-    ensures { IsShallow (any_view (inner image.new)).tree }
-{
-    let (number, name, stamp) = source;
-    match program_in(rt, name, stamp, MOST) {
-        Ok(Some(bytes)) => add_unmet(rt.alloc(), image, line, &bytes, all),
-        Ok(None) => Ok(()),
-        Err(e) if e.is_memory() => Err(Unknown::Memory),
-        Err(e) => Err(Unknown::Source(number, e)),
+impl Search<'_> {
+    /// Adds what the program of a line, which has these bytes, needs and the image does not have.
+    /// Returns whether others may still be looked at.
+    fn add(&mut self, alloc: Global, line: &Line, bytes: &[u8]) -> Result<bool, Unknown>
+        requires { IsShallow (any_view (inner self.old.image)).tree }
+        ensures { IsShallow (any_view (inner self.new.image)).tree }
+    {
+        let needs = FileNeeds::of(line.mode & EXECUTABLE != 0, bytes);
+        if !self.effort.take(&needs, bytes.len()) {
+            self.unmet.push(Unmet::of(alloc, line, None)?)?;
+            return Ok(false);
+        }
+        let names = unmet(alloc, &mut self.image, &needs)?;
+        for name in &names {
+            let name = name.to_vec(alloc)?;
+            self.unmet.push(Unmet::of(alloc, line, Some(name))?)?;
+        }
+        Ok(true)
     }
+
+    /// Adds what the program of a line, whose source has this number, name and state, needs and the
+    /// image does not have. Returns whether others may still be looked at.
+    #[inline(never)]
+    fn look_at(
+        &mut self,
+        rt: &HostRuntime,
+        line: &Line,
+        source: (usize, &str, &Stamp),
+    ) -> Result<bool, Unknown>
+        requires { IsShallow (any_view (inner self.old.image)).tree }
+        ensures { IsShallow (any_view (inner self.new.image)).tree }
+    {
+        let (number, name, stamp) = source;
+        match program_in(rt, name, stamp, MOST) {
+            Ok(Some(bytes)) => self.add(rt.alloc(), line, &bytes),
+            Ok(None) => Ok(true),
+            Err(e) if e.is_memory() => Err(Unknown::Memory),
+            Err(e) => Err(Unknown::Source(number, e)),
+        }
+    }
+}
+
+/// Returns how many bytes an image and its sources have.
+fn size_of(image: &[u8], stamps: &[Stamp]) -> u64 {
+    let mut size = image.len() as u64;
+    for stamp in stamps {
+        size = size.saturating_add(stamp.len);
+    }
+    size
 }
 
 /// Returns what the programs of a manifest need that its image would not have, in the order of the
@@ -123,23 +151,41 @@ pub fn unmet_in(
     names: &[&str],
     stamps: &[Stamp],
 ) -> Result<Vec<Unmet>, Unknown> {
-    let alloc = rt.alloc();
-    let mut all = Vec::new(alloc);
+    let (alloc, unmet) = (rt.alloc(), Vec::new(rt.alloc()));
     let Some(bytes) = names_in(alloc, format, origin)? else {
-        return Ok(all);
+        return Ok(unmet);
     };
     let Some(image) = image_of(alloc, &bytes)? else {
-        return Ok(all);
+        return Ok(unmet);
     };
-    let mut image = Indexed::new(alloc, image);
+    let effort = Effort::of(&image, size_of(&bytes, stamps));
+    let image = Indexed::new(alloc, image);
+    let mut search = Search {
+        image,
+        effort,
+        unmet,
+    };
     let lines = origin.manifest.lines();
     let files = lines.iter().filter(|line| matches!(line.word, Word::File));
     for (number, (line, (name, stamp))) in files.zip(names.iter().zip(stamps)).enumerate() {
-        if may_be_program(origin.states(), name) {
-            look_at(rt, &mut image, line, (number, name, stamp), &mut all)?;
+        if may_be_program(origin.states(), name)
+            && !search.look_at(rt, line, (number, name, stamp))?
+        {
+            break;
         }
     }
-    Ok(all)
+    Ok(search.unmet)
+}
+
+/// Returns what is said of a program.
+fn text_of(alloc: Global, unmet: &Unmet, word: &str) -> Result<String, AllocError> {
+    match &unmet.name {
+        Some(name) => {
+            let name = shown(alloc, name)?;
+            format!(in alloc; "{word}needs {name}, which the image does not have")
+        }
+        None => format!(in alloc; "{word}{UNREAD_NEEDS}"),
+    }
 }
 
 /// Adds what one program needs, after a word.
@@ -150,8 +196,7 @@ fn add_words(
     word: &str,
 ) -> Result<(), AllocError> {
     let alloc = words.alloc();
-    let name = shown(alloc, &unmet.name)?;
-    let what = format!(in alloc; "{word}needs {name}, which the image does not have")?;
+    let what = text_of(alloc, unmet, word)?;
     if origin.scanned.is_some() {
         // the manifest of a scan is in no file
         words.add(&unmet.path, &what);

@@ -10,7 +10,9 @@ use crate::output::{coloured_lines, errors, lines};
 use crate::stop::{FrontOf, Line, Noted, Stop};
 use crate::warned;
 use crate::words::{Words, refusal_words, words_of};
-use build_commands::{print_bad_manifest, print_misfit, print_needs, print_size, print_unfit};
+use build_commands::{
+    print_bad_manifest, print_misfit, print_needs, print_size, print_unfit, print_unread,
+};
 use command_line::{WordsError, is_explain, shown};
 use program_streams::Held;
 use rom_commands::{Ending, Status, refuse, refuse_in, report};
@@ -346,7 +348,11 @@ impl<'a> Reporter<'a> {
                 self.printed(print_misfit(&mut lines(self.rt), line, number))
             }
             Line::Needs(Unmet { line, path, name }) => {
-                self.printed(print_needs(&mut lines(self.rt), line, &path, &name))
+                let out = &mut lines(self.rt);
+                match name {
+                    Some(name) => self.printed(print_needs(out, line, &path, &name)),
+                    None => self.printed(print_unread(out, line, &path)),
+                }
             }
             Line::Unfit(counts) => {
                 // the status says it, even if standard error accepts no line

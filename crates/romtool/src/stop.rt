@@ -36,7 +36,7 @@ pub enum Line {
     Misfit { line: u64, number: u32 },
     /// `unfit OWNERS GROUPS MODES`.
     Unfit(ChangeCounts),
-    /// `needs LINE PATH NAME`.
+    /// `needs LINE PATH NAME`, or `unread LINE PATH`.
     Needs(Unmet),
 }
 

@@ -1,6 +1,6 @@
 use Rattle.std.proofs.Common.{map, take}
 use Rattle.command_line.specs.Numbers.{AreAligns}
-use Rattle.command_line.proofs.asking.aligns_of.Given as goal
+use Rattle.command_line.proofs.building.aligns_of.Given as goal
 
 abbrev pub invariant-loop-word : goal.invariant-loop-word
 invariant-loop-word l =

@@ -2,7 +2,7 @@ use Rattle.std.proofs.Common.{List, ℕ, [], subst, sym, ap, ◌∙◌, map}
 use Rattle.std.specs.Borrow.{Bor}
 use Rattle.command_line.specs.Numbers.{AreDevices, DeviceWords, no_device, next_device}
 use Rattle.command_line.proofs.Loops.{map_more, whole}
-use Rattle.command_line.proofs.asking.added_of.Goals as goal
+use Rattle.command_line.proofs.building.added_of.Goals as goal
 
 pub loop-word-init : goal.loop-word-init
 loop-word-init c = subst (λ (ds : List DeviceWords). AreDevices [] ds) (sym c.new-devices.ensures.items) no_device

@@ -3,7 +3,7 @@ use Rattle.std.specs.Borrow.{Bor}
 use Rattle.command_line.specs.Numbers.{AreAligns, no_align, next_align}
 use Rattle.command_line.specs.declared.request.AlignRule.{AlignRule}
 use Rattle.command_line.proofs.Loops.{map_more, whole}
-use Rattle.command_line.proofs.asking.aligns_of.Goals as goal
+use Rattle.command_line.proofs.building.aligns_of.Goals as goal
 
 pub loop-word-init : goal.loop-word-init
 loop-word-init c = subst (λ (rs : List AlignRule). AreAligns [] (4, rs)) (sym c.new.ensures.items) no_align
