@@ -14,7 +14,7 @@ use Rattle.elf_format.specs.declared.header.Header.{Header}
 use Rattle.elf_format.specs.declared.numbers.Class.{Class}
 use Rattle.elf_format.specs.declared.numbers.Class.TheVariants.{Bits32, Bits64}
 use Rattle.elf_format.specs.declared.program.Program.{Program}
-use Rattle.program_report.specs.Needs.{needed_or_none}
+use Rattle.program_report.specs.FileNeeded.{needed_or_none}
 
 in_file : (c : Class) (b : List ℕ) (p : Program) → 8 * entries_in c b p ≤ length b
 in_file Bits32 b p = omega arith

@@ -8,9 +8,8 @@ use Rattle.rom_tree.specs.Image.{Image, stat_of}
 use Rattle.rom_tree.specs.Runs.{front_of}
 use Rattle.rom_tree.specs.Tree.{Node, attributes_of, is_regular, places_of}
 use Rattle.rom_tree.specs.declared.types.Stat.{Stat}
-use Rattle.program_report.specs.Needs.{FileNeeded, file_needs, has_interpreter, has_library, may_execute, missing}
-use Rattle.program_report.specs.Needs.{needs_in, nothing_needed}
-use Rattle.program_report.specs.Needs.{unless}
+use Rattle.program_report.specs.FileNeeded.{FileNeeded, file_needs, nothing_needed}
+use Rattle.program_report.specs.Needs.{has_interpreter, has_library, may_execute, missing, needs_in, unless}
 
 pub not_regular : (m : Image) (x : Node) (n : FileNeeded) → n ≡ nothing_needed → is_regular x ≡ false → n ≡ needs_in m x
 unfolding needs_in

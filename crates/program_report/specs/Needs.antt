@@ -1,7 +1,7 @@
 -- `missing`: the interpreter and the libraries that a file needs and an image does not have.
 -- `needs_text`: a line for each of them, file by file. (This project's own. The directories are
--- those of ld.so(8), and of Debian's multiarch. What a file needs is
--- `elf_format/specs/Needs.antt`.)
+-- those of ld.so(8), and of Debian's multiarch. What a file needs is `FileNeeded.antt`, and how
+-- much may be looked at `Effort.antt`.)
 use Rattle.std.specs.Prelude.{ℕ, ◌-◌, ◌/◌, ◌%◌, nat_lt, ◌==◌, ◌&&◌, ◌||◌, Bool, false, not}
 use Rattle.std.specs.Prelude.{if◌then◌else◌, List, [], ◌∷◌, ◌++◌, codes, length, map, Option}
 use Rattle.std.specs.Prelude.{None, Some, Result, Ok, Err, true}
@@ -14,29 +14,9 @@ use Rattle.rom_tree.specs.Tree.{Node, attributes_of, is_regular, places_of}
 use Rattle.path_walk.specs.Components.{begins_with_slash, is_empty}
 use Rattle.path_walk.specs.Resolution.{resolution, tree_namespace}
 use Rattle.path_walk.specs.declared.error.WalkError.{WalkError}
-use Rattle.elf_format.specs.Needs.{Needed, interpreter_of, needs_of}
-
--- what a file needs: an interpreter; and libraries, with the run path
-pub record FileNeeded : Type 0 where
-  pub interpreter : Option (List ℕ)
-  pub libraries : Needed
-
-abbrev pub no_libraries : Needed
-no_libraries = record { needed = []; run_path = None }
-
-abbrev pub needed_or_none : Option Needed → Needed
-needed_or_none None = no_libraries
-needed_or_none (Some n) = n
-
--- what a file of these bytes needs: only one that can be executed needs its interpreter
-abbrev pub file_needs : Bool → List ℕ → FileNeeded
-file_needs executable b = record {
-  interpreter = if executable then interpreter_of b else None;
-  libraries = needed_or_none (needs_of b);
-}
-
-abbrev pub nothing_needed : FileNeeded
-nothing_needed = record { interpreter = None; libraries = no_libraries }
+use Rattle.program_report.specs.FileNeeded.{file_needs, nothing_needed}
+use Rattle.program_report.specs.Effort.{budget, effort, longest_link}
+pub use Rattle.program_report.specs.FileNeeded.{FileNeeded, entry_count}
 
 abbrev pub is_file : Result Node WalkError → Bool
 is_file (Ok x) = is_regular x
@@ -109,10 +89,6 @@ missing m n =
     unless (has_interpreter m) n.interpreter
     ∷ map (unless (has_library m n.libraries.run_path)) n.libraries.needed
 
--- how many entries are looked at
-abbrev pub entry_count : FileNeeded → ℕ
-entry_count n = length n.libraries.needed
-
 -- the owner, the group or others may execute a file of this mode
 abbrev pub may_execute : ℕ → Bool
 may_execute mode = (mode / 64 % 2 == 1) || ((mode / 8 % 2 == 1) || (mode % 2 == 1))
@@ -133,21 +109,25 @@ need_line path (Some name) =
 abbrev pub need_lines : List ℕ → List (Option (List ℕ)) → List ℕ
 need_lines path ns = flat_map (need_line path) ns
 
--- `unread PATH`: the file has more entries than may still be looked at
+-- what it costs to look at the needs of a node
+abbrev pub node_effort : Image → ℕ → Node → ℕ
+node_effort m longest x = effort longest (length (places_of x)) (needs_in m x)
+
+-- `unread PATH`: to look at the file's needs costs more than is left
 abbrev pub unread_line : List ℕ → List ℕ
 unread_line path = codes "unread " ++ (path ++ 10 ∷ [])
 
--- the lines of some names, if so many entries may still be looked at
-abbrev pub needs_from : Image → ℕ → List Name → List ℕ
-needs_from m left [] = []
-needs_from m left (x ∷ xs) =
-    if nat_lt left (entry_count (needs_in m x.node)) then unread_line (escaped x.path)
+-- the lines of some names, if so much is left
+abbrev pub needs_from : Image → ℕ → ℕ → List Name → List ℕ
+needs_from m longest left [] = []
+needs_from m longest left (x ∷ xs) =
+    if nat_lt left (node_effort m longest x.node) then unread_line (escaped x.path)
     else need_lines (escaped x.path) (missing m (needs_in m x.node))
-    ++ needs_from m (left - entry_count (needs_in m x.node)) xs
+    ++ needs_from m longest (left - node_effort m longest x.node) xs
 
--- the lines of an image: 2^20 entries are looked at
+-- the lines of an image
 unfoldable pub needs_text : Image → List ℕ
-needs_text m = needs_from m 1048576 (names m.tree)
+needs_text m = needs_from m (longest_link (names m.tree)) (budget m) (names m.tree)
 
 -- whether there is a line
 unfoldable pub needs_warn : Image → Bool

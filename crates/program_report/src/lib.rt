@@ -14,10 +14,13 @@
 //! - `write_needs`, `FileNeeds::{of, count, missing}`: the output has exactly a line for each
 //!   interpreter and library that a program of the image needs and that is not in the image; if a
 //!   write fails, a prefix is written.
+//! - `Effort::{of, take}`: what `write_needs` looks at costs no more than as many bytes as the image
+//!   has, and 2^20 more; it stops at the first file that would cost more.
 //! - `laws::planned_is_found`: with an MMU, what is found of a file in one run of an image is what
 //!   `verdict_at` says of its bytes alone, except whether its last page is in place.
 #![tactic(auto)]
 
+mod effort;
 mod finding;
 mod findings;
 pub mod laws;
@@ -29,6 +32,7 @@ mod question;
 mod report;
 mod tally;
 
+pub use effort::Effort;
 pub use finding::{Found, Reason, Verdict, verdict_at};
 pub use needs::{FileNeeds, write_needs};
 pub use question::Question;

@@ -13,7 +13,7 @@ use path_walk::walk;
 use rom_tree::{TreeImage, is_regular_at};
 
 /// The most bytes of a path.
-const PATH_MAX: usize = 4_095;
+pub(crate) const PATH_MAX: usize = 4_095;
 
 /// The directories of libraries of ld.so, and those of Debian for each architecture, with a colon
 /// between two.

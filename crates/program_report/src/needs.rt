@@ -8,19 +8,18 @@ ghost use Rattle.rom_tree.specs.Image.{image_node, HasNode};
 ghost use Rattle.rom_tree.specs.Tree.{IsShallow, Node};
 ghost use Rattle.rom_tree.specs.Walks.{given_path};
 ghost use Rattle.path_walk.specs.Components.{is_empty};
-ghost use Rattle.program_report.specs.Needs.{entry_count, file_needs, may_execute, missing};
-ghost use Rattle.program_report.specs.Needs.{need_line, need_lines, needs_in, needs_text};
-ghost use Rattle.program_report.specs.Needs.{needed_or_none, needs_warn, nothing_needed};
-ghost use Rattle.program_report.specs.Needs.{unread_line};
+ghost use Rattle.program_report.specs.Effort.{interpreter_count, library_count, run_path_size};
+ghost use Rattle.program_report.specs.FileNeeded.{entry_count, file_needs, needed_or_none};
+ghost use Rattle.program_report.specs.FileNeeded.{nothing_needed};
+ghost use Rattle.program_report.specs.Needs.{may_execute, missing, need_line, need_lines};
+ghost use Rattle.program_report.specs.Needs.{needs_in, needs_text, needs_warn, unread_line};
 
-use crate::missing::{missing_interpreter, missing_library};
+use crate::effort::Effort;
+use crate::missing::{PATH_MAX, missing_interpreter, missing_library};
 use elf_format::{Needs, interpreter};
 use rom_fields::{ByteWrite, Failed, put, put_escaped};
 use rom_tree::{NodeId, TreeImage, Walk, front_bytes, is_regular_at};
 use std::marker::Model;
-
-/// How many entries of dynamic segments are looked at in an image.
-const ENTRIES_MAX: usize = 1_048_576;
 
 /// What a file needs: its interpreter, and the libraries that its dynamic segment names. Contracts
 /// see the texts.
@@ -33,7 +32,7 @@ pub struct FileNeeds<'a> {
 
 impl<'a> Model for FileNeeds<'a> {
     ghost use Rattle.std.specs.Prelude.{◌≡◌, ◌<◌, ◌^◌, length, option_map};
-    ghost use Rattle.program_report.specs.Needs.{FileNeeded, needed_or_none};
+    ghost use Rattle.program_report.specs.FileNeeded.{FileNeeded, needed_or_none};
 
     ghost Value = { FileNeeded };
 
@@ -54,6 +53,19 @@ fn run_path_of<'a>(libraries: &Option<Needs<'a>>) -> Option<&'a [u8]>
         Some(libraries) => libraries.run_path(),
         None => None,
     }
+}
+
+/// Counts the entries that name a library.
+fn count_libraries(libraries: &Needs<'_>) -> usize
+    ensures { result ≡ library_count libraries.now.needed }
+{
+    let mut count = 0;
+    for index in 0..libraries.entries() {
+        if libraries.needed(index).is_some() {
+            count += 1;
+        }
+    }
+    count
 }
 
 impl<'a> FileNeeds<'a> {
@@ -87,13 +99,44 @@ impl<'a> FileNeeds<'a> {
     }
 
     /// Returns the number of entries of the dynamic segment.
-    fn entries(&self) -> usize
+    pub(crate) fn entries(&self) -> usize
         ensures is { result ≡ entry_count self.now }
         ensures few { result < 2 ^ 63 }
     {
         match &self.libraries {
             Some(libraries) => libraries.entries(),
             None => 0,
+        }
+    }
+
+    /// Returns 1 if there is an interpreter, and otherwise 0.
+    pub(crate) fn interpreters(&self) -> usize
+        ensures { result ≡ interpreter_count self.now.interpreter }
+    {
+        match self.interpreter {
+            Some(_) => 1,
+            None => 0,
+        }
+    }
+
+    /// Returns the number of entries that name a library.
+    pub(crate) fn libraries(&self) -> usize
+        ensures { result ≡ library_count self.now.libraries.needed }
+    {
+        match &self.libraries {
+            Some(libraries) => count_libraries(libraries),
+            None => 0,
+        }
+    }
+
+    /// Returns the number of bytes of the run path, or 0 if it is longer than a path may be.
+    pub(crate) fn run_path_size(&self) -> usize
+        ensures is { result ≡ run_path_size self.now.libraries.run_path }
+        ensures small { result ≤ 4095 }
+    {
+        match self.run_path {
+            Some(path) if path.len() <= PATH_MAX => path.len(),
+            _ => 0,
         }
     }
 
@@ -233,8 +276,8 @@ fn finish_unread<'a, W: ByteWrite>(w: &mut W, walk: &Walk<'a>) -> Result<bool, F
 ///
 /// - `needs PATH NAME`: the file at PATH needs NAME, which is the path of an interpreter, or a
 ///   library (DT_NEEDED);
-/// - `unread PATH`: the file at PATH has more entries in its dynamic segment than are left of
-///   1,048,576 for all files. It and the files after it are not looked at.
+/// - `unread PATH`: to look at what the file at PATH needs would cost more than is left of the
+///   image's bytes and 2^20. It and the files after it are not looked at. `Effort` has the prices.
 ///
 /// A file is looked at if its bytes are in one run. Where libraries are looked for, `missing` of
 /// `FileNeeds` says: not in what ld.so.conf or LD_LIBRARY_PATH name.
@@ -254,19 +297,19 @@ pub fn write_needs<'a, T: TreeImage<'a>, W: ByteWrite>(
     ensures stays { T.image image.new ≡ T.image image.old }
 {
     let mut failed = false;
-    let mut left = ENTRIES_MAX;
     let mut warns = false;
+    let bytes = image.bytes();
+    let mut effort = Effort::of(&*image, bytes.len() as u64);
     let mut walk = Walk::new();
     while !failed {
         let Some(node) = walk.next(&*image) else {
             return Ok(warns);
         };
+        let stat = image.stat(node);
         let needs = needs_in(&*image, node);
-        let entries = needs.entries();
-        if entries > left {
+        if !effort.take(&needs, stat.size) {
             return finish_unread(w, &walk);
         }
-        left -= entries;
         warns |= put_needs(image, w, &mut failed, &walk, &needs);
     }
     Err(Failed)

@@ -12,8 +12,8 @@ invariant-loop-failed g l = record {
   walk : IsWalk (g.T.Viewed.image l.fn.image) l.walk;
   done : List ℕ;
   puts : Puts (sink (g.W.ByteWrite.output l.fn.w) false) (sink (g.W.ByteWrite.output l.w) l.failed) done;
-  rest : done ++ needs_from (g.T.Viewed.image l.fn.image) l.left (to_come (g.T.Viewed.image l.fn.image) l.walk)
-      ≡ needs_text (g.T.Viewed.image l.fn.image);
+  rest : done ++ needs_from (g.T.Viewed.image l.fn.image) l.effort.longest l.effort.left
+      (to_come (g.T.Viewed.image l.fn.image) l.walk) ≡ needs_text (g.T.Viewed.image l.fn.image);
   warns : l.warns ≡ not (is_empty done);
 }
 

@@ -1,7 +1,7 @@
 use Rattle.std.proofs.Common.{◌≡◌, ◌∙◌, sym, ap, None}
 use Rattle.std.specs.Prelude.{slice_index_or}
 use Rattle.elf_format.specs.Needs.{Needed}
-use Rattle.program_report.specs.Needs.{FileNeeded, needed_or_none}
+use Rattle.program_report.specs.FileNeeded.{FileNeeded, needed_or_none}
 use Rattle.program_report.proofs.NodeNeeds.{entry_missing}
 use Rattle.program_report.proofs.needs.FileNeeds.missing_entry.Goals as goal
 

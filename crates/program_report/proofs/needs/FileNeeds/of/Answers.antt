@@ -1,6 +1,6 @@
 use Rattle.std.proofs.Common.{arith, ap, length, Option}
 use Rattle.elf_format.specs.Needs.{Needed}
-use Rattle.program_report.specs.Needs.{needed_or_none}
+use Rattle.program_report.specs.FileNeeded.{needed_or_none}
 use Rattle.program_report.proofs.Few.{few_needed}
 use Rattle.program_report.proofs.needs.FileNeeds.of.Goals as goal
 
