@@ -231,11 +231,7 @@ pub fn print_needs<'x, W: ByteWrite>(
 ///
 /// `Failed` if a write or the flush failed. Then a prefix of the line was written.
 #[tactic(auto, unfolding(crate::specs::Lines::line_text, crate::specs::Lines::part_text, crate::specs::Printed::unread_line))]
-pub fn print_unread<'x, W: ByteWrite>(
-    w: &mut W,
-    line: u64,
-    path: &'x [u8],
-) -> Result<(), Failed>
+pub fn print_unread<'x, W: ByteWrite>(w: &mut W, line: u64, path: &'x [u8]) -> Result<(), Failed>
     ensures text { WritesText (W.output w.old).contents (W.output w.new).contents result
         (unread_line line path.now) }
     ensures count { Counts (W.output w.old).failures (W.output w.new).failures result }

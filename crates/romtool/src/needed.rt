@@ -1,5 +1,5 @@
 //! What the programs of a planned image need that it would not have.
-ghost use Rattle.std.specs.Prelude.{IfOk, IfSome};
+ghost use Rattle.std.specs.Prelude.{◌<◌, ◌^◌, IfOk, IfSome};
 ghost use Rattle.image_check.specs.Any.{any_view};
 ghost use Rattle.lookups.specs.Inner.{inner};
 ghost use Rattle.rom_tree.specs.Tree.{IsShallow};
@@ -98,7 +98,8 @@ impl Search<'_> {
         ensures { IsShallow (any_view (inner self.new.image)).tree }
     {
         let needs = FileNeeds::of(line.mode & EXECUTABLE != 0, bytes);
-        if !self.effort.take(&needs, bytes.len()) {
+        let size = u32::try_from(bytes.len()).unwrap_or(u32::MAX);
+        if !self.effort.take(&needs, size) {
             self.unmet.push(Unmet::of(alloc, line, None)?)?;
             return Ok(false);
         }
@@ -132,13 +133,15 @@ impl Search<'_> {
     }
 }
 
-/// Returns how many bytes an image and its sources have.
-fn size_of(image: &[u8], stamps: &[Stamp]) -> u64 {
+/// Returns how many bytes an image and its sources have, at most 2^62.
+fn size_of(image: &[u8], stamps: &[Stamp]) -> u64
+    ensures { result < 2 ^ 63 }
+{
     let mut size = image.len() as u64;
     for stamp in stamps {
         size = size.saturating_add(stamp.len);
     }
-    size
+    size.min(1 << 62)
 }
 
 /// Returns what the programs of a manifest need that its image would not have, in the order of the
