@@ -133,7 +133,7 @@ REASONS = {
     "NO_ADDRESS": "with this --base it has addresses of more than 64 bits",
     "NO_PREFIX": "--prefix has to begin with a letter, and to have only letters, digits and _",
     "MISREAD": "it is valid, but Linux misreads what these lines name; see LINUX, By number",
-    "NEEDED": "programs need these files, and it does not have them; see PROTOCOL, What programs need",
+    "NEEDED": "these are needed and not found, or were not looked at; see PROTOCOL, What programs need",
     "NOT_IN_PLACE": "Linux does not execute all of these programs in place; see PROTOCOL, Programs in place",
     "NOT_EMPTY": "it is not empty",
     "OF_ANOTHER_USER": "it is owned by another user, who could change what is made in it",
@@ -179,11 +179,11 @@ REASONS = {
     "NO_SUCH_FILE": "no file has this path, so its mode and owner cannot be set",
     "TABLE_LINE": "a line has PATH TYPE MODE UID GID MAJOR MINOR START INC COUNT; PATH begins with a slash",
     "TABLE_TYPE": "TYPE is f, F, d, r, c, b or p",
-    "TABLE_NUMBER": "MODE is octal or -1; UID and GID are numbers or root, the others numbers or -",
+    "TABLE_NUMBER": "MODE is octal, or -1 for f, F, r, d; UID, GID are numbers or root, the others numbers or -",
     "TABLE_COUNT": "COUNT is at most 65536",
     "TABLE_PATH": "a path in an image has at most 64 names",
     "TABLE_FILES": "all lines together make or set at most 1048576 files",
-    "TABLE_FILE": "no file has this path, or a directory and another kind of file have it",
+    "TABLE_FILE": "no file of this kind has this path, or a directory and another kind of file have it",
     "DEVICE_NO_TEXT": "a path or the text of a link has to be UTF-8 here",
 }
 # endings whose sentences depend on the cause

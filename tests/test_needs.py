@@ -250,7 +250,7 @@ def test_words(romtool):
     assert romtool("build", "cramfs", "m", "image")[2] == 0
     out, err, status = romtool("--explain", "linux", "--needs", "image")
     assert (out, status) == (b"needs /p /lib/ld.so\n", 1)
-    assert err == b"romtool: image: programs need these files, and it does not have them; see PROTOCOL, What programs need\n"
+    assert err == b"romtool: image: these are needed and not found, or were not looked at; see PROTOCOL, What programs need\n"
 
 
 def test_refused_builds(romtool):
@@ -264,7 +264,7 @@ def test_refused_builds(romtool):
     assert bytes_in("out") == b"before"
     out, err, status = romtool("--explain", "build", "--needs", "romfs", "m", "out")
     assert (out, status) == (b"needs 3 /bin/a%20b /lib/ld.so\n", 1)
-    told = "romtool: m:3: needs %s, which the image does not have\n"
+    told = "romtool: m:3: needs %s, which is not found in the image\n"
     assert err.decode() == told % "/lib/ld.so" + told % "libx.so.1"
     put("m", text + b"dir /lib 0755 0 0\nfile /lib/libx.so.1 0644 0 0 4 s\nfile /lib/ld.so 0755 0 0 4 e\n")
     put("e")
@@ -284,7 +284,7 @@ def test_packed(romtool):
     put("d/bin/t", b"#!/bin/sh\n", 0o644)
     out, err, status = romtool("--explain", "pack", "--all-root", "cramfs", "d", "out")
     assert status == 0 and out.startswith(b"ok ")
-    assert err.decode().split("\n")[0] == "romtool: /bin/s: warning: needs /bin/sh, which the image does not have"
+    assert err.decode().split("\n")[0] == "romtool: /bin/s: warning: needs /bin/sh, which is not found in the image"
     assert err.count(b"needs") == 1
     assert romtool("pack", "--all-root", "--quiet", "--needs", "cramfs", "d", "other") == (b"needs 3 /bin/s /bin/sh\n", b"", 1)
     assert not os.path.exists("other")
@@ -299,6 +299,6 @@ def test_many_needs(romtool):
     for n in range(25):
         put("d/%02d" % n, b"#!/%02d..\n" % n, 0o755)
     err = romtool("--explain", "pack", "--all-root", "romfs", "d", "out")[1].decode().split("\n")
-    told = ["romtool: /%02d: warning: needs /%02d.., which the image does not have" % (n, n) for n in range(20)]
+    told = ["romtool: /%02d: warning: needs /%02d.., which is not found in the image" % (n, n) for n in range(20)]
     assert [it for it in err if "warning: needs" in it] == told
     assert [it for it in err if "more needs" in it] == ["romtool: -: warning: 5 more needs are not met"]

@@ -185,7 +185,7 @@ fn text_of(alloc: Global, unmet: &Unmet, word: &str) -> Result<String, AllocErro
     match &unmet.name {
         Some(name) => {
             let name = shown(alloc, name)?;
-            format!(in alloc; "{word}needs {name}, which the image does not have")
+            format!(in alloc; "{word}needs {name}, which is not found in the image")
         }
         None => format!(in alloc; "{word}{UNREAD_NEEDS}"),
     }

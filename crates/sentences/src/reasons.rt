@@ -53,7 +53,7 @@ pub const MISREAD: &str =
 
 /// A program in a valid image needs a file that the image does not have.
 pub const NEEDED: &str =
-    "programs need these files, and it does not have them; see PROTOCOL, What programs need";
+    "these are needed and not found, or were not looked at; see PROTOCOL, What programs need";
 
 /// A program in a valid image is not, or not wholly, executed in place.
 pub const NOT_IN_PLACE: &str =
@@ -136,7 +136,7 @@ pub const TABLE_TYPE: &str = "TYPE is f, F, d, r, c, b or p";
 
 /// A number of a line of a table of devices is none.
 pub const TABLE_NUMBER: &str =
-    "MODE is octal or -1; UID and GID are numbers or root, the others numbers or -";
+    "MODE is octal, or -1 for f, F, r, d; UID, GID are numbers or root, the others numbers or -";
 
 /// A line of a table of devices makes too many devices.
 pub const TABLE_COUNT: &str = "COUNT is at most 65536";
@@ -149,7 +149,7 @@ pub const TABLE_FILES: &str = "all lines together make or set at most 1048576 fi
 
 /// A line of a table of devices is about a file that is not there, or of another kind.
 pub const TABLE_FILE: &str =
-    "no file has this path, or a directory and another kind of file have it";
+    "no file of this kind has this path, or a directory and another kind of file have it";
 
 /// A path or a text in a file of devices is no UTF-8.
 pub const DEVICE_NO_TEXT: &str = "a path or the text of a link has to be UTF-8 here";
