@@ -82,6 +82,20 @@ fn image_of(alloc: Global, bytes: &[u8]) -> Result<Option<AnyImage<'_>>, Unknown
     }
 }
 
+/// Adds what the program of a line needs.
+fn add_all(
+    alloc: Global,
+    line: &Line,
+    names: &[&[u8]],
+    all: &mut Vec<Unmet>,
+) -> Result<(), Unknown> {
+    for name in names {
+        let name = name.to_vec(alloc)?;
+        all.push(Unmet::of(alloc, line, Some(name))?)?;
+    }
+    Ok(())
+}
+
 /// Programs that are looked at, over an image of their names.
 #[derive(Drop)]
 struct Search<'a> {
@@ -104,10 +118,7 @@ impl Search<'_> {
             return Ok(false);
         }
         let names = unmet(alloc, &mut self.image, &needs)?;
-        for name in &names {
-            let name = name.to_vec(alloc)?;
-            self.unmet.push(Unmet::of(alloc, line, Some(name))?)?;
-        }
+        add_all(alloc, line, &names, &mut self.unmet)?;
         Ok(true)
     }
 

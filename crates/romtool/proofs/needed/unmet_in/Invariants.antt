@@ -7,5 +7,5 @@ abbrev pub invariant-loop-number : goal.invariant-loop-number
 invariant-loop-number l = record {
   next : (goal.iterator-loop-number).can_next l.number-iterator;
   finite : (goal.iterator-loop-number).is_finite l.number-iterator;
-  shallow : IsShallow (any_view (inner l.image)).tree;
+  shallow : IsShallow (any_view (inner l.search.image)).tree;
 }
