@@ -14,7 +14,7 @@
 //! - `write_needs`, `FileNeeds::{of, count, missing}`: the output has exactly a line for each
 //!   interpreter and library that a program of the image needs and that is not in the image; if a
 //!   write fails, a prefix is written.
-//! - `Effort::{of, take}`: what `write_needs` looks at costs no more than as many bytes as the image
+//! - `Effort::{of, take}`: what `write_needs` looks at costs no more than as many bytes as an image
 //!   has, and 2^20 more; it stops at the first file that would cost more.
 //! - `laws::planned_is_found`: with an MMU, what is found of a file in one run of an image is what
 //!   `verdict_at` says of its bytes alone, except whether its last page is in place.
