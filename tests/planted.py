@@ -418,7 +418,7 @@ ERRORS = {
         ("build romfs m out", "rm -f .out.romtool-7.part"),
         ("build romfs m out", "touch .out.romtool-50.part"),
         ("build romfs m out", "[ $status = 3 ] && status=0"),
-        ("scan --all --exclude *", "rm -f d/.list.romtool-0.part"),
+        ("scan --all --exclude *", "rm -f d/.list.romtool-1.part"),
         ("--explain build romfs m /dev/*", "sed -i 's/mounted/in use/' $err"),
         ("calls", "int flock(int file, int how) { return 0; }"),
         ("calls", "int unlink(const char *path) { return 0; }"),
